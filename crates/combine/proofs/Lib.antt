@@ -1,0 +1,2 @@
+pub mod Never
+pub mod Zipping

@@ -1,0 +1,3 @@
+pub mod MapRule
+pub mod MapAgrees
+pub mod MapPipeline

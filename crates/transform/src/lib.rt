@@ -1,0 +1,2 @@
+// Adapters that turn items into others, one by one.
+pub mod map;
