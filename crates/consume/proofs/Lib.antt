@@ -1,0 +1,2 @@
+pub mod Polling
+pub mod Once

@@ -1,0 +1,5 @@
+pub mod Meanings
+pub mod Puts
+pub mod Draws
+pub mod Polls
+pub mod Runs
