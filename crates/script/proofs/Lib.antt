@@ -1,0 +1,4 @@
+mod Faults
+mod Places
+mod Polls
+mod Rightness
