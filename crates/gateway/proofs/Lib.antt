@@ -1,0 +1,5 @@
+mod Cutting
+mod Lining
+pub mod Printing
+mod Reporting
+mod Spacing
