@@ -1,4 +1,6 @@
 // Adapters that join streams, or pair items with their numbers.
+#![tactic(auto)]
+
 pub mod chain;
 pub mod enumerate;
 pub mod zip;

@@ -1,3 +1,5 @@
 // The ends of the programs: standard input as bytes, and text on standard output.
+#![tactic(auto)]
+
 pub mod input;
 pub mod output;

@@ -1,2 +1,4 @@
 // The adapters by name, on every stream.
+#![tactic(auto)]
+
 pub mod stream_ext;

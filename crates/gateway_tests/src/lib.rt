@@ -1,4 +1,6 @@
 // Tests of what is printed for an input, in a crate of their own so that the gateway is not proved twice.
+#![tactic(auto)]
+
 #[cfg(test)]
 mod polls;
 mod recorder;

@@ -1,4 +1,6 @@
 // Adapters over streams of futures and streams of streams.
+#![tactic(auto)]
+
 pub mod flat_map;
 pub mod flatten;
 mod inner;

@@ -1,4 +1,6 @@
 // Readings: signed 32-bit numbers that come as pairs of 16-bit words.
+#![tactic(auto)]
+
 pub mod fault;
 pub mod join;
 pub mod layer;

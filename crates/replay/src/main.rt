@@ -1,3 +1,5 @@
+#![tactic(auto)]
+
 use console::input::read_up_to;
 use console::output::Output;
 use gateway::printer::write_report;

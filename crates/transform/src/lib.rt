@@ -1,4 +1,6 @@
 // Adapters that turn each item into one answer.
+#![tactic(auto)]
+
 pub mod map;
 pub mod map_while;
 pub mod scan;

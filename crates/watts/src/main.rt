@@ -1,3 +1,5 @@
+#![tactic(auto)]
+
 use console::input::{INPUT_LEN, read_up_to};
 use console::output::Output;
 use gateway::printer::write_report;
