@@ -2,4 +2,5 @@
 #![tactic(auto)]
 
 pub mod input;
+mod line_buffer;
 pub mod output;

@@ -1,11 +1,11 @@
 ghost use Rattle.std.specs.Prelude.{◌≡◌, true, is_ok, Ok};
 
-use std::io::{BufWriter, Stdout, Write};
+use crate::line_buffer::LineBuffer;
 use std::{fmt, io};
 
 // Standard output as text that is written line by line, and whether all so far could be written.
 pub struct Output {
-    lines: BufWriter<Stdout>,
+    lines: LineBuffer,
     written: io::Result<()>,
 }
 
@@ -14,7 +14,7 @@ impl Output {
         ensures { result.written ≡ Ok tt }
     {
         Output {
-            lines: BufWriter::new(rt.stdout()),
+            lines: LineBuffer::new(rt.stdout()),
             written: Ok(()),
         }
     }

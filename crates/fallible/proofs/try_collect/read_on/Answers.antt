@@ -35,7 +35,7 @@ returns-in-Ok-Err g c =
     let h : Offered g.X.Sink c.loop-stream.first c.in-Ready-Some.item (Ok (Err c.in-Ok-Err.refusal)) c.offer.new.sink = search rules in
     let x = good g.X.Sink _ _ _ _ h in
     let w = item _ _ _ _ _ _ _ c.loop-stream.invariant c.in-Ready-Some.ensures.polled e (ap good_goes_on x.1) (ap (fault_met None) x.1) (ap good_put x.1) in
-    first_refused _ _ _ _ _ _ _ _ w x.2 (ap (λ z. to_first z ∷ []) c.into-item.ensures) refl refl
+    first_refused _ _ _ _ _ _ _ _ w x.2 (ap (λ z. to_first z ∷ []) c.into_item.ensures) refl refl
 
 pub returns-in-Err : goal.returns-in-Err
 returns-in-Err g c =

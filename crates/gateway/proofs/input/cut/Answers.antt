@@ -4,4 +4,4 @@ use Rattle.gateway.proofs.input.cut.Goals as goal
 
 pub returns : goal.returns
 returns c =
-    cut_right c.args.input.now c.from-length.result (search rules) (c.from-length.ensures ∙ c.from-be-bytes.ensures) c.if-length-scripts.false
+    cut_right c.args.input.now c.from-length.result (search rules) (c.from-length.ensures ∙ c.from_be_bytes.ensures) c.if-length-scripts.false

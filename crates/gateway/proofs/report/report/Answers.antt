@@ -5,8 +5,8 @@ use Rattle.gateway.specs.Reports.{readings}
 use Rattle.gateway.proofs.Reporting.{Fresh, fresh_answers, few_answers, reports_refused, reports_opened}
 use Rattle.gateway.proofs.report.report.Goals as goal
 
-pub print-polls-requires : goal.print-polls-requires
-print-polls-requires g c =
+pub print_polls-requires : goal.print_polls-requires
+print_polls-requires g c =
     let fresh : Fresh c.new-in-Ok-2.result (c.in-Ok.high, c.in-Ok.low) = record { number = search rules; slot = search rules; first = search rules; second = search rules } in
     few_answers (scripts c.args.input.now) c.new-in-Ok-2.result (c.in-Ok.high, c.in-Ok.low) c.in-Ok.ensures fresh
 
@@ -23,5 +23,5 @@ returns-in-Ok g c =
     let e = fresh_answers c.new-in-Ok-2.result (c.in-Ok.high, c.in-Ok.low) fresh in (
       lines_from 1 [] (readings c.in-Ok.high.left.now c.in-Ok.low.left.now),
       reports_opened (scripts c.args.input.now) (c.in-Ok.high, c.in-Ok.low) c.in-Ok.ensures,
-      subst (λ xs. Printed g.P.Printer.prints c.args.printer.now (lines_from 1 [] xs) c.print-polls.new.printer) e c.print-polls.ensures,
+      subst (λ xs. Printed g.P.Printer.prints c.args.printer.now (lines_from 1 [] xs) c.print_polls.new.printer) e c.print_polls.ensures,
     )

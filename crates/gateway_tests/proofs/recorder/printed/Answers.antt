@@ -5,6 +5,6 @@ use Rattle.gateway_tests.proofs.recorder.printed.Goals as goal
 
 pub returns : goal.returns
 returns c =
-    let ok : is_ok c.write-report-text.result.1 ≡ true = search rules in
-    let h = c.write-report-text.ensures ok in
+    let ok : is_ok c.write_report-text.result.1 ≡ true = search rules in
+    let h = c.write_report-text.ensures ok in
     (h.0, h.1, contents_after_writes _ string_bytes (λ w l v t. t) _ _ _ h.2 ∙ ap (λ l. l ++ lines_text h.0) c.new.ensures.bytes)

@@ -15,7 +15,7 @@ returns-in-87 t c =
     let plain : (get_or left 0 0 ≡ 78) ⊎ (get_or left 0 0 ≡ 87) = rw head c.in-87.is in
     let step = past_plain c.args.script c.args.at left plain in
     let onward = drop-drop 1 c.args.at bytes in
-    c.first-fault.ensures ∙ ap (fault_from c.args.script (c.args.at + 1)) (sym onward) ∙ sym step
+    c.first_fault.ensures ∙ ap (fault_from c.args.script (c.args.at + 1)) (sym onward) ∙ sym step
 
 pub returns-in-73 : goal.returns-in-73
 returns-in-73 t c =
@@ -30,10 +30,10 @@ returns-in-73-2 t c =
     let head = head_drop c.args.at bytes in
     let step = past_item c.args.script c.args.at left (head ∙ c.in-73.is) (omega (arith, length-drop c.args.at bytes)) in
     let onward = drop-drop 3 c.args.at bytes in
-    c.first-fault-in-73-2.ensures ∙ ap (fault_from c.args.script (c.args.at + 3)) (sym onward) ∙ sym step
+    c.first_fault-in-73-2.ensures ∙ ap (fault_from c.args.script (c.args.at + 3)) (sym onward) ∙ sym step
 
-pub returns-in-default : goal.returns-in-default
-returns-in-default t c =
+pub returns-in_default : goal.returns-in_default
+returns-in_default t c =
     let bytes = c.args.bytes.now in
     let byte = get_or bytes c.args.at 0 in
     let no_wait : byte ≡ 87 → ⊥ = search rules in

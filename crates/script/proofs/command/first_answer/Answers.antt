@@ -4,8 +4,8 @@ use Rattle.stream.specs.declared.poll.Poll.TheVariants.{Ready, Pending}
 use Rattle.script.proofs.Polls.{Gives, at_wait, at_none, at_item, at_end, at_fault, stays_right}
 use Rattle.script.proofs.command.first_answer.Goals as goal
 
-pub returns-then-is-empty : goal.returns-then-is-empty
-returns-then-is-empty c =
+pub returns-then-is_empty : goal.returns-then-is_empty
+returns-then-is_empty c =
     let all = at_end c.args.bytes.now (search rules) in
     record { answer = all.0; left = all.1; rest = all.2; right = stays_right all.1 }
 
@@ -24,12 +24,12 @@ returns-in-78 c =
 pub returns-in-73 : goal.returns-in-73
 returns-in-73 c =
     let xs = c.args.bytes.now in
-    let word = ap (λ (w : ℕ). Ready (Some w)) c.from-be-bytes.ensures in
+    let word = ap (λ (w : ℕ). Ready (Some w)) c.from_be_bytes.ensures in
     let all = subst (Gives xs (Ready (Some _))) (sym (take_rest xs 3)) (at_item xs c.in-73.is (omega arith)) in
     record { answer = word ∙ all.0; left = all.1; rest = all.2; right = stays_right all.1 }
 
-pub returns-in-default : goal.returns-in-default
-returns-in-default c =
+pub returns-in_default : goal.returns-in_default
+returns-in_default c =
     let xs = c.args.bytes.now in
     let no_wait : get_or xs 0 0 ≡ 87 → ⊥ = search rules in
     let no_none : get_or xs 0 0 ≡ 78 → ⊥ = search rules in

@@ -32,5 +32,5 @@ pub loop-item-preserved : goal.loop-item-preserved
 loop-item-preserved g c =
     let x = c.in-Ready-Some.item in
     let e : Ready (Some x) ≡ first (g.S.Stream.answers c.loop-item.self.stream) = search rules in
-    let q = c.in-default.ensures in
+    let q = c.in_default.ensures in
     drops c.loop-item.invariant x c.in-Ready-Some.ensures.polled e (ap held_item (sym q.output)) q.next
