@@ -6,10 +6,10 @@ use Rattle.std.specs.declared.fmt.Formatter.{Formatter}
 use Rattle.std.specs.Fmt.{IsPlainFormatter, HasWritten, signed_decimal}
 use Rattle.gateway.specs.Texts.{spaced}
 
-spaced-push : (ws : List ℤ) (w : ℤ) → spaced (ws ++ (w ∷ [])) ≡ spaced ws ++ (codes " " ++ signed_decimal w)
-spaced-push [] w = ap (λ l. codes " " ++ l) (append-nil (signed_decimal w))
+spaced_push : (ws : List ℤ) (w : ℤ) → spaced (ws ++ (w ∷ [])) ≡ spaced ws ++ (codes " " ++ signed_decimal w)
+spaced_push [] w = ap (λ l. codes " " ++ l) (append-nil (signed_decimal w))
 spaced_push (v ∷ ws) w =
-    ap (λ l. codes " " ++ (signed_decimal v ++ l)) (spaced-push ws w) ∙ ap (λ l. codes " " ++ l) (sym (append_assoc (signed_decimal v) (spaced ws) (codes " " ++ signed_decimal w)))
+    ap (λ l. codes " " ++ (signed_decimal v ++ l)) (spaced_push ws w) ∙ ap (λ l. codes " " ++ l) (sym (append_assoc (signed_decimal v) (spaced ws) (codes " " ++ signed_decimal w)))
 
 module _ {W : Type 0} (took : W → List ℕ → W → Type 0) where
   pub put_none : (f : Formatter W) → IsPlainFormatter f → HasWritten took f [] f

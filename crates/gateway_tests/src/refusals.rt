@@ -4,8 +4,18 @@ use std::test::Fail;
 
 // That an input gives just this line.
 fn gives(rt: &(impl Abort + AllocGlobal), input: &[u8], line: &str) -> Result<(), Fail> {
+    gives_at(rt, input, line, "the input's one line")
+}
+
+// The same; a failure says which input it is.
+fn gives_at(
+    rt: &(impl Abort + AllocGlobal),
+    input: &[u8],
+    line: &str,
+    note: &str,
+) -> Result<(), Fail> {
     let text = printed(rt.alloc(), input)?;
-    assert_eq!(rt; text.as_str(), line);
+    assert_eq!(rt; text.as_str(), line, "{note}");
     Ok(())
 }
 
@@ -13,9 +23,19 @@ fn gives(rt: &(impl Abort + AllocGlobal), input: &[u8], line: &str) -> Result<()
 fn headers(rt: HostRuntime) -> Result<(), Fail> {
     gives(&rt, b"", "refused 7 0 0\n")?;
     gives(&rt, b"\x00", "refused 7 0 0\n")?;
-    gives(&rt, b"\x00\x03I\x00\x01", "1 done\n").note("a length equal to what follows")?;
-    gives(&rt, b"\x00\x04I\x00\x01", "refused 7 0 0\n").note("a length one above what follows")?;
-    gives(&rt, b"\x10\x01X", "refused 7 0 0\n").note("7 comes before 2")
+    gives_at(
+        &rt,
+        b"\x00\x03I\x00\x01",
+        "1 done\n",
+        "a length equal to what follows",
+    )?;
+    gives_at(
+        &rt,
+        b"\x00\x04I\x00\x01",
+        "refused 7 0 0\n",
+        "a length one above what follows",
+    )?;
+    gives_at(&rt, b"\x10\x01X", "refused 7 0 0\n", "7 comes before 2")
 }
 
 #[test]
@@ -26,8 +46,13 @@ fn unknown_commands(rt: HostRuntime) -> Result<(), Fail> {
 
 #[test]
 fn items_cut_short(rt: HostRuntime) -> Result<(), Fail> {
-    gives(&rt, b"\x00\x01I", "refused 4 1 0\n").note("no byte after it")?;
-    gives(&rt, b"\x00\x03WI\x00", "refused 4 1 1\n").note("one byte after it")?;
+    gives_at(&rt, b"\x00\x01I", "refused 4 1 0\n", "no byte after it")?;
+    gives_at(
+        &rt,
+        b"\x00\x03WI\x00",
+        "refused 4 1 1\n",
+        "one byte after it",
+    )?;
     gives(&rt, b"\x00\x00WWI", "refused 4 2 2\n")
 }
 
@@ -36,10 +61,20 @@ fn long_scripts(rt: HostRuntime) -> Result<(), Fail> {
     let mut high = [b'X'; 4099];
     high[0] = 0x10;
     high[1] = 0x01;
-    gives(&rt, &high, "refused 2 1 4096\n").note("4,097 bytes, and 2 before 3")?;
+    gives_at(
+        &rt,
+        &high,
+        "refused 2 1 4096\n",
+        "4,097 bytes, and 2 before 3",
+    )?;
     gives(&rt, &high[0..4098], "refused 7 0 0\n")?;
     high[1] = 0x00;
-    gives(&rt, &high[0..4098], "refused 3 1 0\n").note("4,096 bytes are not too long")?;
+    gives_at(
+        &rt,
+        &high[0..4098],
+        "refused 3 1 0\n",
+        "4,096 bytes are not too long",
+    )?;
     let mut low = [b'N'; 4099];
     low[0] = 0;
     low[1] = 0;

@@ -8,7 +8,7 @@ loop-watts-init g c = put_none g.W.Write.write_str_gives c.args.f.now
 pub loop-watts-preserved : goal.loop-watts-preserved
 loop-watts-preserved g c plain =
     let before = c.loop-watts.invariant plain in
-    put_next g.W.Write.write_str_gives c.args.f.now c.loop-watts.f c.args.self.now.0.now c.loop-watts.watts-index c.write.new.self c.loop-watts-test.true before (c.in-ok-write.ensures.shows before.plain (refl {a = true}))
+    put_next g.W.Write.write_str_gives c.args.f.now c.loop-watts.f c.args.self.now.0.now c.loop-watts.watts-index c.write.new.self c.loop-watts-test.true before (c.in_ok-write.ensures.writes before.plain (refl {a = true}))
 
 pub returns-clause-writes : goal.returns-clause-writes
 returns-clause-writes g c plain _ =
