@@ -6,8 +6,6 @@ root=$(cd "$(dirname "$0")/.." && pwd)
 copy=$(mktemp -d)
 trap 'rm -rf "$copy"' EXIT
 cp -r "$root/crates" "$root/crates.txt" "$copy/"
-# What is proved already is taken over.
-[ ! -d "$root/target" ] || cp -r "$root/target" "$copy/"
 cd "$copy" || exit 1
 mkdir -p crates/misuse/src crates/misuse/specs crates/misuse/proofs
 : > crates/misuse/specs/Lib.antt
@@ -21,15 +19,19 @@ declare -A error=(
     [unchecked-script]='private-field'
 )
 
+checked() {
+    (cd crates/misuse && rt check) > "$1" 2>&1
+}
+
 bad=0
 for file in "$root"/misuse/*.txt; do
     name=$(basename "$file" .txt)
     sed -n 's/^[ -]//p' "$file" > crates/misuse/src/lib.rt
-    if ! rt check misuse > right.log 2>&1; then
+    if ! checked right.log; then
         echo "misuse $name: its right use is refused"; tail -n 20 right.log; bad=1; continue
     fi
     sed -n 's/^[ +]//p' "$file" > crates/misuse/src/lib.rt
-    if rt check misuse > wrong.log 2>&1; then
+    if checked wrong.log; then
         echo "misuse $name: NOT REFUSED"; bad=1
     elif grep -qF "error[${error[$name]:-none}]" wrong.log; then
         echo "misuse $name: does not compile, as it must not (${error[$name]})"

@@ -8,7 +8,6 @@ use Rattle.stream.specs.Answers.{Answer, Agree, waits_in}
 use Rattle.stream.specs.Nones.{before_none}
 use Rattle.stream.specs.NonesAgree.{before_none_agree}
 use Rattle.stream.specs.Pipelines.{Pipeline, Polled}
-use Rattle.limit.specs.declared.fuse.Fuse.{Fuse}
 use Rattle.limit.specs.FusePipeline.{fuse_agree, fuse_alike, fuse_answers, fuse_pipeline}
 use Rattle.combine.specs.declared.chain.Chain.{Chain}
 

@@ -1,9 +1,7 @@
 -- Skip as part of a pipeline.
-use Rattle.std.specs.Prelude.{◌≡◌, ℕ, zero, suc, List}
-use Rattle.std.proofs.Common.{subst}
+use Rattle.std.specs.Prelude.{◌≡◌, List}
 use Rattle.stream.specs.declared.stream.Stream.{Ghosts as Streams}
 use Rattle.stream.specs.Answers.{Answer}
-use Rattle.stream.specs.ItemwiseAgrees.{Making}
 use Rattle.stream.specs.ItemwisePipelines.{itemwise_pipeline}
 use Rattle.stream.specs.Pipelines.{Pipeline}
 use Rattle.stream.specs.Runs.{TookByPolls}

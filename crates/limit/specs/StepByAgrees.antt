@@ -1,5 +1,5 @@
 -- Lemmas that fill a ghost member: from the same step and count, matching items are dropped or kept alike.
-use Rattle.std.specs.Prelude.{◌≡◌, ℕ, zero, suc, refl}
+use Rattle.std.specs.Prelude.{◌≡◌, ℕ, zero, suc}
 use Rattle.std.proofs.Common.{ap, subst}
 use Rattle.stream.specs.ItemwiseAgrees.{Making}
 use Rattle.limit.specs.StepByRule.{counts_down, kept_at, steps}

@@ -42,7 +42,7 @@ fn polls(rt: HostRuntime) -> Result<(), Fail> {
     assert_eq!(rt; shown(script.poll_next()), 4000);
     assert_eq!(rt; shown(script.poll_next()), 0x10001);
     assert_eq!(rt; shown(script.poll_next()), 0x10000);
-    assert_eq!(rt; script.into_bytes(), b"I\x00\x01");
+    assert_eq!(rt; script.into_bytes(), b"I\x00\x01".as_slice());
     Ok(())
 }
 

@@ -1,6 +1,6 @@
 -- Lemmas that fill a ghost member: by callbacks that agree, matching items are dropped or kept alike.
 use Rattle.std.specs.Prelude.{◌≡◌, ℕ, suc, Bool, true, false, not, Some, None, Option}
-use Rattle.std.proofs.Common.{ap, sym, arith}
+use Rattle.std.proofs.Common.{ap, arith}
 use Rattle.stream.specs.Answers.{Matching}
 use Rattle.stream.specs.Callbacks.{CallbacksAgree}
 use Rattle.stream.specs.ItemwiseAgrees.{Making, item_if_agree}

@@ -1,5 +1,5 @@
 -- A real callback over plain items, as a behaviour of a second pipeline.
-use Rattle.std.proofs.Common.{◌≡◌, ℕ, zero, suc, List, [], ◌∷◌, Some, None, refl, ap, ◌∙◌, subst, ap₂}
+use Rattle.std.proofs.Common.{◌≡◌, ℕ, zero, suc, List, [], ◌∷◌, Some, None, refl, ap, subst, ap₂}
 use Rattle.stream.specs.declared.poll.Poll.TheVariants.{Ready, Pending}
 use Rattle.stream.specs.Answers.{Answer}
 use Rattle.stream.specs.Callbacks.{AlikeFor, Behaviour, CallbacksAgree, gives, onward}

@@ -1,8 +1,8 @@
 -- Ruling cases out, and reading an answer off a poll.
-use Rattle.std.proofs.Common.{◌≡◌, ℕ, true, false, List, [], ◌∷◌, is_some, Some, None, Option, refl, arith}
+use Rattle.std.proofs.Common.{◌≡◌, ℕ, false, List, [], ◌∷◌, is_some, Some, None, Option, refl, arith}
 use Rattle.stream.specs.declared.poll.Poll.TheVariants.{Ready, Pending}
 use Rattle.stream.specs.declared.stream.Stream.{Ghosts as Streams}
-use Rattle.stream.specs.Answers.{Answer, first, rest}
+use Rattle.stream.specs.Answers.{Answer, first}
 use Rattle.stream.specs.Pipelines.{Pipeline, Polled}
 
 pub never : {A : Type 0} → ◌≡◌ {A = ℕ} 0 1 → A

@@ -1,5 +1,5 @@
 -- A list up to its first None, by its first answer.
-use Rattle.std.proofs.Common.{◌≡◌, List, [], ◌∷◌, Some, None, refl, ap}
+use Rattle.std.proofs.Common.{◌≡◌, List, Some, None, refl, ap}
 use Rattle.stream.specs.declared.poll.Poll.TheVariants.{Ready, Pending}
 use Rattle.stream.specs.Answers.{Answer, first, rest}
 use Rattle.stream.specs.Nones.{before_none}

@@ -1,4 +1,4 @@
-use Rattle.std.proofs.Common.{◌≡◌, [], sym, refl, ap, ◌∙◌, ap₂}
+use Rattle.std.proofs.Common.{[], sym, ap, ◌∙◌, ap₂}
 use Rattle.stream.specs.Nones.{before_none}
 use Rattle.stream.specs.NonesAgree.{before_none_agree}
 use Rattle.limit.specs.FuseRule.{fused, fused_unless}

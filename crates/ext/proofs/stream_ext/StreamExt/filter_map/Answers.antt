@@ -1,4 +1,4 @@
-use Rattle.std.proofs.Common.{◌≡◌, sym, refl, subst, ap₂}
+use Rattle.std.proofs.Common.{refl, ap₂}
 use Rattle.stream.specs.Answers.{Matching}
 use Rattle.stream.specs.Views.{insides}
 use Rattle.select.specs.FilterMapRule.{filter_mapped}

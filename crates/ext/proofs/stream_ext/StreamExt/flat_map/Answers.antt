@@ -1,4 +1,4 @@
-use Rattle.std.proofs.Common.{◌≡◌, None, refl, ap, ◌∙◌, ap₂}
+use Rattle.std.proofs.Common.{None, refl, ap, ◌∙◌, ap₂}
 use Rattle.stream.specs.Answers.{Agree}
 use Rattle.stream.specs.Callbacks.{gives, onward}
 use Rattle.transform.specs.MapRule.{mapped}

@@ -1,4 +1,4 @@
-use Rattle.std.proofs.Common.{◌≡◌, None, refl, ap₂}
+use Rattle.std.proofs.Common.{None, refl, ap₂}
 use Rattle.stream.specs.Answers.{Agree}
 use Rattle.nest.specs.Nested.{nested_answers}
 use Rattle.ext.proofs.Building.{empty_matches, stream_kept}

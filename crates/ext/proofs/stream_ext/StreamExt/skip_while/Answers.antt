@@ -1,4 +1,4 @@
-use Rattle.std.proofs.Common.{◌≡◌, Some, sym, refl, subst, ap₂}
+use Rattle.std.proofs.Common.{Some, sym, refl, subst, ap₂}
 use Rattle.stream.specs.Answers.{Matching}
 use Rattle.stream.specs.Callbacks.{gives, onward}
 use Rattle.select.specs.SkipWhileAgrees.{Agreeing}

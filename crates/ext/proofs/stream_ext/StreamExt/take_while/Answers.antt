@@ -1,4 +1,4 @@
-use Rattle.std.proofs.Common.{◌≡◌, sym, refl, subst, ap₂}
+use Rattle.std.proofs.Common.{◌≡◌, refl, ap₂}
 use Rattle.transform.specs.TakeWhileRule.{taken_while}
 use Rattle.ext.proofs.Building.{callback_kept, stream_kept}
 use Rattle.ext.proofs.stream_ext.StreamExt.take_while.Goals as goal

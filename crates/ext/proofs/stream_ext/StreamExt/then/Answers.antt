@@ -1,4 +1,4 @@
-use Rattle.std.proofs.Common.{◌≡◌, None, refl, ap, ◌∙◌, ap₂}
+use Rattle.std.proofs.Common.{None, refl, ap, ◌∙◌, ap₂}
 use Rattle.nest.specs.ThenPipeline.{SameOutput}
 use Rattle.nest.specs.ThenRule.{future_first, thened}
 use Rattle.ext.proofs.Building.{callback_kept, empty_matches, stream_kept}

@@ -1,4 +1,4 @@
-use Rattle.std.proofs.Common.{◌≡◌, Some, None, sym, refl, ap, ◌∙◌, rules}
+use Rattle.std.proofs.Common.{◌≡◌, Some, None, sym, ap, rules}
 use Rattle.stream.specs.declared.poll.Poll.TheVariants.{Ready}
 use Rattle.stream.specs.Answers.{first}
 use Rattle.stream.specs.Itemwise.{held_item}

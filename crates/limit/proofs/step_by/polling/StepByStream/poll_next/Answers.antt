@@ -1,4 +1,4 @@
-use Rattle.std.proofs.Common.{◌≡◌, ℕ, zero, suc, ◌-◌, ◌<◌, Some, None, sym, refl, ap, ◌∙◌, arith, rules}
+use Rattle.std.proofs.Common.{◌≡◌, ℕ, zero, suc, ◌-◌, ◌<◌, Some, None, sym, refl, ap, arith, rules}
 use Rattle.stream.specs.declared.poll.Poll.TheVariants.{Ready}
 use Rattle.stream.specs.Answers.{first}
 use Rattle.stream.specs.Itemwise.Made.{dropped}
