@@ -1,48 +1,100 @@
-ghost use Rattle.std.specs.Prelude.{◌≡◌, ◌≤◌, OnOk};
+ghost use Rattle.std.specs.Prelude.{◌≤◌};
 
 use std::io;
-use std::io::{Stdout, Write};
+use std::io::Write;
 
 // How many bytes are kept before they are written; a line of the programs is far shorter.
 const LINE_LEN: usize = 1024;
 
-// Standard output behind a place for the bytes of a line, so that a line goes out in one write.
+// A writer behind a place for the bytes of a line, so that a line goes out in one write.
 #[derive(Drop)]
-pub struct LineBuffer {
-    stdout: Stdout,
+pub struct LineBuffer<W> {
+    writer: W,
     line: [u8; LINE_LEN],
     len: usize,
     ghost fits: { len ≤ 1024 },
 }
 
-impl LineBuffer {
-    pub fn new(stdout: Stdout) -> LineBuffer {
+impl<W: Write> LineBuffer<W> {
+    ghost use Rattle.std.specs.Prelude.{◌≡◌, ◌+◌, ◌<◌, [], ◌++◌, length, OnOk};
+    ghost use Rattle.std.specs.Io.KnownBytes.{Appends, Keeps};
+    ghost use Rattle.console.specs.Given.{given, kept};
+
+    pub fn new(writer: W) -> LineBuffer<W>
+        ensures { (result.writer ≡ writer) × (kept result ≡ []) }
+    {
         LineBuffer {
-            stdout,
+            writer,
             line: [0; LINE_LEN],
             len: 0,
         }
     }
 
     // Keeps the bytes, and writes what it kept where they find no place. What is longer than a line is written at once.
-    pub fn write_all(&mut self, text: &[u8]) -> io::Result<()> {
-        if text.len() > LINE_LEN - self.len {
+    pub fn write_all(&mut self, text: &[u8]) -> io::Result<()>
+        ensures { OnOk result (Appends (given W.contents self.old) (given W.contents self.new) text.now) }
+    {
+        self.make_room(text.len())?;
+        if text.len() > LINE_LEN {
+            return self.writer.write_all(text);
+        }
+        self.keep(text);
+        Ok(())
+    }
+
+    // Makes room for so many bytes, or, where they are more than a line, all the room that there is.
+    fn make_room(&mut self, count: usize) -> io::Result<()>
+        ensures same { OnOk result (Keeps (given W.contents self.old) (given W.contents self.new)) }
+        ensures room { OnOk result (count ≤ 1024 → self.new.len + count ≤ 1024) }
+        ensures all { OnOk result (1024 < count → self.new.len ≡ 0) }
+    {
+        if count > LINE_LEN - self.len {
             self.flush()?;
         }
-        if text.len() > LINE_LEN {
-            return self.stdout.write_all(text);
-        }
+        Ok(())
+    }
+
+    // Keeps the bytes, for which there is room.
+    fn keep(&mut self, text: &[u8])
+        requires { self.old.len + length text.now ≤ 1024 }
+        ensures writer { self.new.writer ≡ self.old.writer }
+        ensures kept { kept self.new ≡ kept self.old ++ text.now }
+    {
         self.line[self.len..self.len + text.len()].copy_from_slice(text);
         self.len += text.len();
-        Ok(())
     }
 
     // Writes what it kept.
     pub fn flush(&mut self) -> io::Result<()>
-        ensures { OnOk result (self.new.len ≡ 0) }
+        ensures sent { OnOk result (Appends (W.contents self.old.writer) (W.contents self.new.writer) (kept self.old)) }
+        ensures empty { OnOk result (self.new.len ≡ 0) }
     {
-        self.stdout.write_all(&self.line[..self.len])?;
+        self.writer.write_all(&self.line[..self.len])?;
         self.len = 0;
+        Ok(())
+    }
+}
+
+#[cfg(test)]
+mod tests {
+    use super::*;
+    use std::test::Fail;
+
+    // Bytes that find room, bytes that find none, and more than a line: all come out, in order.
+    #[test]
+    fn pieces(rt: HostRuntime) -> Result<(), Fail> {
+        let mut buffer = LineBuffer::new(Vec::new(rt.alloc()));
+        buffer.write_all(b"ab")?;
+        assert_eq!(rt; buffer.writer.len(), 0);
+        buffer.write_all(&[b'c'; 1023])?;
+        assert_eq!(rt; buffer.writer.as_slice(), b"ab".as_slice());
+        buffer.write_all(&[b'd'; 1025])?;
+        assert_eq!(rt; buffer.writer.len(), 2050);
+        buffer.write_all(b"e")?;
+        buffer.flush()?;
+        assert_eq!(rt; buffer.writer.len(), 2051);
+        assert!(rt; buffer.writer.starts_with(b"abcc"));
+        assert!(rt; buffer.writer.ends_with(b"dde"));
         Ok(())
     }
 }

@@ -1,11 +1,12 @@
 ghost use Rattle.std.specs.Prelude.{◌≡◌, true, is_ok, Ok};
 
 use crate::line_buffer::LineBuffer;
+use std::io::Stdout;
 use std::{fmt, io};
 
 // Standard output as text that is written line by line, and whether all so far could be written.
 pub struct Output {
-    lines: LineBuffer,
+    lines: LineBuffer<Stdout>,
     written: io::Result<()>,
 }
 
