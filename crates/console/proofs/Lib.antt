@@ -1,1 +1,1 @@
-mod Past
+mod LongTexts

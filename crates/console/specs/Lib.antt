@@ -1,1 +1,1 @@
-pub mod Given
+pub mod LineBuffers

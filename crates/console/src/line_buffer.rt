@@ -1,4 +1,5 @@
 ghost use Rattle.std.specs.Prelude.{◌≤◌};
+ghost use Rattle.console.specs.declared.line_buffer.TheConstants.{LINE_LEN};
 
 use std::io;
 use std::io::Write;
@@ -12,13 +13,13 @@ pub struct LineBuffer<W> {
     writer: W,
     line: [u8; LINE_LEN],
     len: usize,
-    ghost fits: { len ≤ 1024 },
+    ghost fits: { len ≤ LINE_LEN },
 }
 
 impl<W: Write> LineBuffer<W> {
     ghost use Rattle.std.specs.Prelude.{◌≡◌, ◌+◌, ◌<◌, [], ◌++◌, length, OnOk};
     ghost use Rattle.std.specs.Io.KnownBytes.{Appends, Keeps};
-    ghost use Rattle.console.specs.Given.{given, kept};
+    ghost use Rattle.console.specs.LineBuffers.{given, kept};
 
     pub fn new(writer: W) -> LineBuffer<W>
         ensures { (result.writer ≡ writer) × (kept result ≡ []) }
@@ -45,8 +46,8 @@ impl<W: Write> LineBuffer<W> {
     // Makes room for so many bytes, or, where they are more than a line, all the room that there is.
     fn make_room(&mut self, count: usize) -> io::Result<()>
         ensures same { OnOk result (Keeps (given W.contents self.old) (given W.contents self.new)) }
-        ensures room { OnOk result (count ≤ 1024 → self.new.len + count ≤ 1024) }
-        ensures all { OnOk result (1024 < count → self.new.len ≡ 0) }
+        ensures room { OnOk result (count ≤ LINE_LEN → self.new.len + count ≤ LINE_LEN) }
+        ensures all { OnOk result (LINE_LEN < count → self.new.len ≡ 0) }
     {
         if count > LINE_LEN - self.len {
             self.flush()?;
@@ -56,7 +57,7 @@ impl<W: Write> LineBuffer<W> {
 
     // Keeps the bytes, for which there is room.
     fn keep(&mut self, text: &[u8])
-        requires { self.old.len + length text.now ≤ 1024 }
+        requires { self.old.len + length text.now ≤ LINE_LEN }
         ensures writer { self.new.writer ≡ self.old.writer }
         ensures kept { kept self.new ≡ kept self.old ++ text.now }
     {

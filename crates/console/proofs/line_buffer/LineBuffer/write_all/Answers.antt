@@ -1,6 +1,6 @@
 use Rattle.std.proofs.Common.{◌≡◌, [], take, ap}
-use Rattle.console.proofs.Past.{past_ok}
-use Rattle.console.specs.Given.{kept}
+use Rattle.console.proofs.LongTexts.{past_ok}
+use Rattle.console.specs.LineBuffers.{kept}
 use Rattle.console.proofs.line_buffer.LineBuffer.write_all.Goals as goal
 
 pub returns-then-text-gt-LINE_LEN : goal.returns-then-text-gt-LINE_LEN
