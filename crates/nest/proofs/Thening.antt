@@ -6,7 +6,7 @@ use Rattle.stream.specs.declared.poll.Poll.{Poll}
 use Rattle.stream.specs.declared.poll.Poll.TheVariants.{Ready, Pending}
 use Rattle.stream.specs.declared.stream.Stream.{Ghosts as Streams}
 use Rattle.stream.specs.Answers.{Answer, NoItem, first, rest, waits_in}
-use Rattle.stream.specs.Futures.{FuturePolled, after_waits, one_less, waited, waits_in_poll}
+use Rattle.stream.specs.Futures.{FuturePolled, after_waits, one_less, waited}
 use Rattle.stream.specs.Pipelines.{Polled}
 use Rattle.nest.specs.declared.then.Then.{Then}
 use Rattle.nest.specs.ThenRule.{future_first, held_after, thened}
@@ -20,7 +20,7 @@ abbrev pub as_item : {B : Type 0} → Poll B → Answer B
 as_item Pending = Pending
 as_item (Ready b) = Ready (Some b)
 
-as_item_waits : {B : Type 0} (r : Poll B) → waits_in (as_item r) ≡ waits_in_poll r
+as_item_waits : {B : Type 0} (r : Poll B) → waits_in (as_item r) ≡ waits_in r
 as_item_waits Pending = refl
 as_item_waits (Ready b) = refl
 

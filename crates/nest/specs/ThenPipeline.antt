@@ -8,7 +8,7 @@ use Rattle.stream.specs.declared.poll.Poll.TheVariants.{Ready}
 use Rattle.stream.specs.declared.stream.Stream.{Ghosts as Streams}
 use Rattle.stream.specs.Answers.{Answer, Agree, Matching, NoItem, waits_in}
 use Rattle.stream.specs.Callbacks.{Behaviour, CallbacksAgree, gives, onward}
-use Rattle.stream.specs.Futures.{FuturePolled, waits_in_poll}
+use Rattle.stream.specs.Futures.{FuturePolled}
 use Rattle.stream.specs.Pipelines.{Pipeline, Polled}
 use Rattle.nest.specs.declared.then.Then.{Then}
 use Rattle.nest.specs.ThenRule.{future_first, held_after, thened}
@@ -31,11 +31,11 @@ module _ {S F A U B : Type 0} (below : Streams S A) (callback : Callbacks F A U)
   -- One poll of a Then, from m to m', that took w waits from below: what each part that it polled answered, which parts it left as they were, and what it holds afterwards.
   pub data ThenTook (m : Then S F U) (w : ℕ) (m' : Then S F U) : Type 0 where
     -- A future u was held: only it was polled.
-    future_only : (u v : U) (r : Poll B) → m.future ≡ Some u → HeldPolled u r v m' → m'.stream ≡ m.stream → m'.f ≡ m.f → w ≡ waits_in_poll r → ThenTook m w m'
+    future_only : (u v : U) (r : Poll B) → m.future ≡ Some u → HeldPolled u r v m' → m'.stream ≡ m.stream → m'.f ≡ m.f → w ≡ waits_in r → ThenTook m w m'
     -- No future was held and the stream brought no item: only the stream was polled.
     stream_only : (r : Answer A) → m.future ≡ None → StreamPolled m r m' → NoItem r → m'.future ≡ None → m'.f ≡ m.f → w ≡ waits_in r → ThenTook m w m'
     -- No future was held and the stream brought x: the callback was called with it, and the future that it made was polled.
-    both_polled : (x : A) (v : U) (r : Poll B) → m.future ≡ None → StreamPolled m (Ready (Some x)) m' → m'.f ≡ callback.next m.f x → HeldPolled (callback.output m.f x) r v m' → w ≡ waits_in_poll r → ThenTook m w m'
+    both_polled : (x : A) (v : U) (r : Poll B) → m.future ≡ None → StreamPolled m (Ready (Some x)) m' → m'.f ≡ callback.next m.f x → HeldPolled (callback.output m.f x) r v m' → w ≡ waits_in r → ThenTook m w m'
 
   -- A future of a second pipeline is seen as its waits and its output; it matches one whose output is the same.
   abbrev pub SeenFuture : Type 0

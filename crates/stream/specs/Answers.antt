@@ -22,10 +22,10 @@ abbrev pub rest : {A : Type 0} → List (Answer A) → List (Answer A)
 rest [] = []
 rest (a ∷ xs) = xs
 
--- How many waits an answer is.
-abbrev pub waits_in : {A : Type 0} → Answer A → ℕ
+-- How many waits an answer is, of a stream or of a future.
+abbrev pub waits_in : {A : Type 0} → Poll A → ℕ
 waits_in Pending = 1
-waits_in (Ready o) = 0
+waits_in (Ready a) = 0
 
 -- An answer that brings no item: a wait or None.
 abbrev pub NoItem : {A : Type 0} → Answer A → Type 0

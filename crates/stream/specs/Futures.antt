@@ -2,17 +2,12 @@
 use Rattle.std.specs.Prelude.{◌≡◌, ℕ, zero, suc, List, ◌∷◌, Some}
 use Rattle.stream.specs.declared.poll.Poll.{Poll}
 use Rattle.stream.specs.declared.poll.Poll.TheVariants.{Ready, Pending}
-use Rattle.stream.specs.Answers.{Answer}
+use Rattle.stream.specs.Answers.{Answer, waits_in}
 
 -- What a future answers that has so many waits to come, and then its output.
 abbrev pub after_waits : {B : Type 0} → ℕ → B → Poll B
 after_waits zero b = Ready b
 after_waits (suc n) b = Pending
-
--- How many waits the answer of a future's poll is.
-abbrev pub waits_in_poll : {B : Type 0} → Poll B → ℕ
-waits_in_poll Pending = 1
-waits_in_poll (Ready b) = 0
 
 -- The waits that are left after a poll.
 abbrev pub one_less : ℕ → ℕ
@@ -42,4 +37,4 @@ pub record FuturePolled {U B : Type 0} (waits : U → ℕ) (output : U → B) (t
   -- the output is the same;
   pub same : output v ≡ output u
   -- it took one wait if the answer is a wait, and else none.
-  pub took : takes u (waits_in_poll r) v
+  pub took : takes u (waits_in r) v

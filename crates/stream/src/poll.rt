@@ -2,7 +2,7 @@ ghost use Rattle.std.specs.Prelude.{◌≡◌, not};
 ghost use Rattle.stream.specs.Answers.{ready};
 
 // What a poll answers: a value, or a wait.
-#[derive(Clone, Copy)]
+#[derive(Clone, Copy, Debug, PartialEq)]
 pub enum Poll<T> {
     Ready(T),
     Pending,
@@ -12,10 +12,7 @@ impl<T> Poll<T> {
     pub fn is_ready(&self) -> bool
         ensures { result ≡ ready self.now }
     {
-        match self {
-            Poll::Ready(_) => true,
-            Poll::Pending => false,
-        }
+        matches!(self, Poll::Ready(_))
     }
 
     pub fn is_pending(&self) -> bool
@@ -23,4 +20,15 @@ impl<T> Poll<T> {
     {
         !self.is_ready()
     }
+}
+
+// What a poll has ready; a wait is the answer of the function that polls.
+#[macro_export]
+macro_rules! ready {
+    ($answer:expr) => {
+        match $answer {
+            $crate::poll::Poll::Ready(value) => value,
+            $crate::poll::Poll::Pending => return $crate::poll::Poll::Pending,
+        }
+    };
 }
