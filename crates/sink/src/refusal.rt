@@ -2,7 +2,7 @@ ghost use Rattle.std.specs.Prelude.{◌≡◌};
 ghost use Rattle.sink.specs.Refusals.{item, number};
 
 // Why a put is refused, with the item handed back.
-#[derive(Drop)]
+#[derive(Debug, Drop, PartialEq, Eq)]
 pub enum PutRefusal<T> {
     Full(T),
 }

@@ -1,7 +1,4 @@
-ghost use Rattle.std.specs.Prelude.{◌≡◌, ℕ, ◌<◌, List, length, take, slice_set};
-ghost use Rattle.std.specs.Borrow.{GName};
-ghost use Rattle.sink.specs.Puts.{Answered};
-ghost use Rattle.sink.specs.Rows.{row_held, row_left, row_makes, row_origin, RowWritten};
+ghost use Rattle.std.specs.Prelude.{◌≡◌, ◌<◌, ◌≤◌, length, slice_set};
 
 use crate::refusal::PutRefusal;
 use crate::sink::Sink;
@@ -10,10 +7,17 @@ use crate::sink::Sink;
 #[derive(Drop)]
 pub struct RowSink<'a, T> {
     row: &'a mut [T],
+    // How many of the row's first elements are items.
     len: usize,
+    ghost fits: { len ≤ length row.now },
 }
 
 impl<'a, T: Copy> Sink for RowSink<'a, T> {
+    ghost use Rattle.std.specs.Prelude.{ℕ, List};
+    ghost use Rattle.std.specs.Borrow.{GName};
+    ghost use Rattle.sink.specs.Puts.{Answered};
+    ghost use Rattle.sink.specs.Rows.{row_held, row_left, row_makes, row_origin, RowWritten};
+
     type Item = T;
 
     ghost Held = { List T };
@@ -34,21 +38,22 @@ impl<'a, T: Copy> Sink for RowSink<'a, T> {
         ensures origin { row_origin self.new ≡ row_origin self.old }
         ensures row { RowWritten self.old item result self.new }
     {
-        if self.len >= self.row.len() {
+        if self.len == self.row.len() {
             return Err(PutRefusal::Full(item));
         }
-        let at = self.len;
-        store(self.row, at, item);
+        store(self.row, self.len, item);
         self.len += 1;
         Ok(())
     }
 
     fn places(&self) -> u64 {
-        self.row.len().saturating_sub(self.len) as u64
+        (self.row.len() - self.len) as u64
     }
 }
 
 impl<'a, T> RowSink<'a, T> {
+    ghost use Rattle.std.specs.Prelude.{take};
+
     // An empty sink with a place for each element of the row.
     pub fn new(row: &'a mut [T]) -> RowSink<'a, T>
         ensures { (result.len ≡ 0) × (result.row.now ≡ row.old) × (result.row.ghost_name ≡ row.entry.ghost_name) }
@@ -67,11 +72,7 @@ impl<'a, T> RowSink<'a, T> {
     pub fn items(&self) -> &[T]
         ensures { result.now ≡ take self.now.len self.now.row.now }
     {
-        if self.len < self.row.len() {
-            &self.row[0..self.len]
-        } else {
-            &self.row[0..]
-        }
+        &self.row[..self.len]
     }
 
     // The row back, as the puts have left it, and how many of its elements are items.
