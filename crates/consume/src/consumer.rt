@@ -31,10 +31,12 @@ pub trait Consumer: Sized {
         self,
         first: &mut X,
         second: &mut Y,
-    ) -> Step<
-        Self,
-        Ended<Self::Output, Self::Below, Self::Callback>,
-        Ended<Self::Error, Self::Below, Self::Callback>,
-    >
+    ) -> StepOf<Self>
         ensures { Polled meaning Self.Below.Stream X.Sink Y.Sink self first.old second.old result first.new second.new };
 }
+
+// What a poll of the consumer C answers.
+pub type StepOf<C> = Step<C, EndedOf<C, <C as Consumer>::Output>, EndedOf<C, <C as Consumer>::Error>>;
+
+// What the consumer C hands back at its end, with its output or its fault as V.
+pub type EndedOf<C, V> = Ended<V, <C as Consumer>::Below, <C as Consumer>::Callback>;

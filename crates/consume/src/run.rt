@@ -1,7 +1,7 @@
 ghost use Rattle.consume.specs.Runs.{Reported};
 
-use crate::consumer::Consumer;
-use crate::step::{Ended, Step};
+use crate::consumer::{Consumer, EndedOf};
+use crate::step::Step;
 use sink::sink::Sink;
 
 // How a run ended, and how many of its polls answered wait and full. A run that ends in a wait has used up its polls.
@@ -19,35 +19,19 @@ pub fn run<C: Consumer, X: Sink<Item = C::First>, Y: Sink<Item = C::Second>>(
     first: &mut X,
     second: &mut Y,
     polls: u64,
-) -> Report<C, Ended<C::Output, C::Below, C::Callback>, Ended<C::Error, C::Below, C::Callback>>
+) -> Report<C, EndedOf<C, C::Output>, EndedOf<C, C::Error>>
     ensures { Reported C.Consumer.meaning C.Below.Stream X.Sink Y.Sink consumer first.old second.old polls result first.new second.new }
 {
     let mut consumer = consumer;
     for waits in 0..polls {
         match consumer.poll(first, second) {
             Step::Wait(next) => consumer = next,
-            Step::Full(next) => {
+            end => {
                 return Report {
                     polls: waits + 1,
                     waits,
-                    fulls: 1,
-                    end: Step::Full(next),
-                };
-            }
-            Step::Done(end) => {
-                return Report {
-                    polls: waits + 1,
-                    waits,
-                    fulls: 0,
-                    end: Step::Done(end),
-                };
-            }
-            Step::Fault(end) => {
-                return Report {
-                    polls: waits + 1,
-                    waits,
-                    fulls: 0,
-                    end: Step::Fault(end),
+                    fulls: u64::from(end.is_full()),
+                    end,
                 };
             }
         }
