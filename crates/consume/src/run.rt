@@ -15,14 +15,13 @@ pub struct Report<C, D, E> {
 
 // Polls a consumer to done, full, fault or so many times.
 pub fn run<C: Consumer, X: Sink<Item = C::First>, Y: Sink<Item = C::Second>>(
-    consumer: C,
+    mut consumer: C,
     first: &mut X,
     second: &mut Y,
     polls: u64,
 ) -> Report<C, EndedOf<C, C::Output>, EndedOf<C, C::Error>>
     ensures { Reported C.Consumer.meaning C.Below.Stream X.Sink Y.Sink consumer first.old second.old polls result first.new second.new }
 {
-    let mut consumer = consumer;
     for waits in 0..polls {
         match consumer.poll(first, second) {
             Step::Wait(next) => consumer = next,

@@ -1,10 +1,12 @@
-ghost use Rattle.std.specs.Prelude.{◌≡◌, None};
+ghost use Rattle.std.specs.Prelude.{◌≡◌, Some, None};
+ghost use Rattle.sink.specs.Refusals.{item as item_of};
 ghost use Rattle.consume.specs.Polls.{Polled};
 ghost use Rattle.fallible.specs.TryCollects.{try_collects};
 
 use crate::offer::offer;
-use consume::consumer::Consumer;
+use consume::consumer::{Consumer, StepOf};
 use consume::step::{Ended, Step};
+use sink::refusal::PutRefusal;
 use sink::sink::Sink;
 use stream::poll::Poll;
 use stream::stream::Stream;
@@ -22,6 +24,13 @@ impl<S, T> TryCollectFuture<S, T> {
         ensures { (result.stream ≡ stream) × (result.kept ≡ None) }
     {
         TryCollectFuture { stream, kept: None }
+    }
+
+    // Keeps the item that found no place.
+    fn keeping(stream: S, refusal: PutRefusal<T>) -> TryCollectFuture<S, T>
+        ensures { (result.stream ≡ stream) × (result.kept ≡ Some (item_of refusal)) }
+    {
+        TryCollectFuture { stream, kept: Some(refusal.into_item()) }
     }
 
     // The stream, and the item that is kept, if any.
@@ -54,14 +63,11 @@ impl<T, E, S: Stream<Item = Result<T, E>>> Consumer for TryCollectFuture<S, T> {
         self,
         first: &mut X,
         second: &mut Y,
-    ) -> Step<TryCollectFuture<S, T>, Ended<(), S, ()>, Ended<E, S, ()>> {
+    ) -> StepOf<Self> {
         let TryCollectFuture { stream, kept } = self;
         if let Some(item) = kept {
             if let Err(refusal) = first.put(item) {
-                return Step::Full(TryCollectFuture {
-                    stream,
-                    kept: Some(refusal.into_item()),
-                });
+                return Step::Full(TryCollectFuture::keeping(stream, refusal));
             }
         }
         read_on(stream, first, second)
@@ -70,16 +76,15 @@ impl<T, E, S: Stream<Item = Result<T, E>>> Consumer for TryCollectFuture<S, T> {
 
 // A poll with no item kept.
 fn read_on<T, E, S: Stream<Item = Result<T, E>>, X: Sink<Item = T>, Y: Sink<Item = T>>(
-    stream: S,
+    mut stream: S,
     first: &mut X,
     second: &mut Y,
-) -> Step<TryCollectFuture<S, T>, Ended<(), S, ()>, Ended<E, S, ()>>
+) -> StepOf<TryCollectFuture<S, T>>
     ensures { Polled try_collects S.Stream X.Sink Y.Sink (record { stream = stream; kept = None }) first.old second.old result first.new second.new }
 {
-    let mut stream = stream;
     loop {
         match stream.poll_next() {
-            Poll::Pending => return Step::Wait(TryCollectFuture { stream, kept: None }),
+            Poll::Pending => return Step::Wait(TryCollectFuture::new(stream)),
             Poll::Ready(None) => return Step::Done(Ended {
                 value: (),
                 stream,
@@ -87,10 +92,7 @@ fn read_on<T, E, S: Stream<Item = Result<T, E>>, X: Sink<Item = T>, Y: Sink<Item
             }),
             Poll::Ready(Some(item)) => match offer(first, item) {
                 Ok(Ok(())) => {}
-                Ok(Err(refusal)) => return Step::Full(TryCollectFuture {
-                    stream,
-                    kept: Some(refusal.into_item()),
-                }),
+                Ok(Err(refusal)) => return Step::Full(TryCollectFuture::keeping(stream, refusal)),
                 Err(fault) => return Step::Fault(Ended {
                     value: fault,
                     stream,
