@@ -13,7 +13,7 @@ use Rattle.consume.specs.declared.step.Step.TheVariants.{Wait, Full, Done, Fault
 use Rattle.consume.specs.declared.step.Ended.{Ended}
 use Rattle.consume.specs.Puts.{Put, to_first, to_second, putting}
 use Rattle.consume.specs.Meanings.{Meaning, Rule, Verdict, goes_on, stops, breaks}
-use Rattle.consume.specs.Draws.{After, Ending, ended, by_verdict, drawing, wait, full, done, fault}
+use Rattle.consume.specs.Draws.{After, Ending, ended, by_verdict, drawing, full}
 use Rattle.consume.specs.Polls.{Drew, Since, Stepped, Polled, poll_of, stream_of, waits_of}
 
 -- A list goes on in None for ever, and reading on makes no difference.
@@ -92,24 +92,22 @@ module _ {C T I A B O E F X Y : Type 0} {M : Meaning C T I A B O E F} {P : Strea
   }
 
   -- a poll that ended as e, with the sinks as they are
-  ends : {t t' : T} {s : M.State} {ps qs : List (Put A B)} {u : X} {v : Y} {r : Step C (Ended O T F) (Ended E T F)} (e : Ending) (s' : M.State) (xs : List (Answer I)) → Within M P U V c x y t s ps u v → comes_to M P U V t s ps u v ≡ ended e qs s' xs (U.held u) (U.left u) (V.held v) (V.left v) → Stepped M P (ended e qs s' xs (U.held u) (U.left u) (V.held v) (V.left v)) r → Drew P (M.stream c) (waits_of r) t' → t' ≡ stream_of M P r → Polled M P U V c x y r u v
-  ends {r = r} e s' xs w q p d i =
+  ends : {t : T} {s : M.State} {ps qs : List (Put A B)} {u : X} {v : Y} {r : Step C (Ended O T F) (Ended E T F)} {e : Ending} {s' : M.State} {xs : List (Answer I)} → Within M P U V c x y t s ps u v → comes_to M P U V t s ps u v ≡ ended e qs s' xs (U.held u) (U.left u) (V.held v) (V.left v) → Stepped M P (ended e qs s' xs (U.held u) (U.left u) (V.held v) (V.left v)) r → Drew P (M.stream c) (waits_of r) (stream_of M P r) → Polled M P U V c x y r u v
+  ends {r = r} w q p d =
       let z = sym q ∙ w.same in
       record {
         first_sink = record { holds = ap (λ a. a.held) z; places = ap (λ a. a.left) z; since = w.first_since };
         second_sink = record { holds = ap (λ a. a.held₂) z; places = ap (λ a. a.left₂) z; since = w.second_since };
         step = subst (λ a. Stepped M P a r) z p;
-        took = subst (λ a. Drew P (M.stream c) (waits_of r) a) i d;
+        took = d;
       }
 
   -- A put that is refused ends the poll: the consumer keeps what is still to put.
-  pub first_refused : {t : T} {s : M.State} {u u' : X} {v : Y} {a b : A} {ps : List (Put A B)} (k : C) → Within M P U V c x y t s (to_first a ∷ ps) u v → Refused U.held U.makes U.left u a b u' → M.kept k ≡ to_first b ∷ ps → M.state k ≡ s → M.stream k ≡ t → Polled M P U V c x y (Full k) u' v
-  first_refused {t = t} {s = s} {ps = ps} k w p e o i =
-      rw p.unchanged (ends full s (P.answers t) w (rw p.no_room refl) (refl, record { kept = e ∙ ap (λ z. to_first z ∷ ps) p.back; state = o; answers = ap P.answers i }) w.drew (sym i))
+  pub first_refused : {t : T} {s : M.State} {u u' : X} {v : Y} {a b : A} {ps : List (Put A B)} {k : C} → Within M P U V c x y t s (to_first a ∷ ps) u v → Refused U.held U.makes U.left u a b u' → M.kept k ≡ to_first b ∷ ps → M.state k ≡ s → M.stream k ≡ t → Polled M P U V c x y (Full k) u' v
+  first_refused {a = a} {ps = ps} w p e o i = rw p.unchanged (ends {qs = to_first a ∷ ps} w (rw p.no_room refl) (refl, record { kept = rw (sym p.back) e; state = o; answers = ap P.answers i }) (rw i w.drew))
 
-  pub second_refused : {t : T} {s : M.State} {u : X} {v v' : Y} {a b : B} {ps : List (Put A B)} (k : C) → Within M P U V c x y t s (to_second a ∷ ps) u v → Refused V.held V.makes V.left v a b v' → M.kept k ≡ to_second b ∷ ps → M.state k ≡ s → M.stream k ≡ t → Polled M P U V c x y (Full k) u v'
-  second_refused {t = t} {s = s} {ps = ps} k w p e o i =
-      rw p.unchanged (ends full s (P.answers t) w (rw p.no_room refl) (refl, record { kept = e ∙ ap (λ z. to_second z ∷ ps) p.back; state = o; answers = ap P.answers i }) w.drew (sym i))
+  pub second_refused : {t : T} {s : M.State} {u : X} {v v' : Y} {a b : B} {ps : List (Put A B)} {k : C} → Within M P U V c x y t s (to_second a ∷ ps) u v → Refused V.held V.makes V.left v a b v' → M.kept k ≡ to_second b ∷ ps → M.state k ≡ s → M.stream k ≡ t → Polled M P U V c x y (Full k) u v'
+  second_refused {a = a} {ps = ps} w p e o i = rw p.unchanged (ends {qs = to_second a ∷ ps} w (rw p.no_room refl) (refl, record { kept = rw (sym p.back) e; state = o; answers = ap P.answers i }) (rw i w.drew))
 
   -- one poll of the stream more
   one_more : {t t' : T} {s : M.State} {u : X} {v : Y} {a : Answer I} → Within M P U V c x y t s [] u v → StreamPolled P.answers P.pipeline t a t' → Drew P (M.stream c) (waits_in a) t'
@@ -124,16 +122,16 @@ module _ {C T I A B O E F X Y : Type 0} {M : Meaning C T I A B O E F} {P : Strea
       rw p.answer (rw p.after (read_first M.rule U.makes V.makes s (P.answers t) (U.held u) (U.left u) (V.held v) (V.left v)))
 
   -- A wait of the stream ends the poll.
-  pub waited : {t t' : T} {s : M.State} {u : X} {v : Y} (k : C) → Within M P U V c x y t s [] u v → StreamPolled P.answers P.pipeline t Pending t' → M.kept k ≡ [] → M.state k ≡ s → M.stream k ≡ t' → Polled M P U V c x y (Wait k) u v
-  waited {t' = t'} {s = s} k w p e o i = ends wait s (P.answers t') w (reads w p) (refl, record { kept = e; state = o; answers = ap P.answers i }) (one_more w p) (sym i)
+  pub waited : {t t' : T} {s : M.State} {u : X} {v : Y} {k : C} → Within M P U V c x y t s [] u v → StreamPolled P.answers P.pipeline t Pending t' → M.kept k ≡ [] → M.state k ≡ s → M.stream k ≡ t' → Polled M P U V c x y (Wait k) u v
+  waited w p e o i = ends w (reads w p) (refl, record { kept = e; state = o; answers = ap P.answers i }) (rw i (one_more w p))
 
   -- None makes it done.
   pub finished : {t t' : T} {s : M.State} {u : X} {v : Y} {o : O} {f : F} → Within M P U V c x y t s [] u v → StreamPolled P.answers P.pipeline t (Ready None) t' → M.done s o f → Polled M P U V c x y (Done (record { value = o; stream = t'; callback = f })) u v
-  finished {t' = t'} {s = s} w p d = ends done s (P.answers t') w (reads w p) (refl, d, refl) (one_more w p) refl
+  finished w p d = ends w (reads w p) (refl, d, refl) (one_more w p)
 
   -- An item, at which it goes on in the state s' with the puts ps to make,
   pub item : {t t' : T} {s s' : M.State} {ps : List (Put A B)} {u : X} {v : Y} {i : I} → Within M P U V c x y t s [] u v → StreamPolled P.answers P.pipeline t (Ready (Some i)) t' → M.rule.verdict s i ≡ goes_on → M.rule.next s i ≡ s' → M.rule.puts s i ≡ ps → Within M P U V c x y t' s' ps u v
-  item {t' = t'} {s = s} {u = u} {v = v} {i = i} w p o n q = rw (sym n) (rw (sym q) (record {
+  item w p o n q = rw (sym n) (rw (sym q) (record {
     same = sym (reads w p ∙ same_verdict _ _ _ o) ∙ w.same;
     first_since = w.first_since;
     second_since = w.second_since;
@@ -142,8 +140,8 @@ module _ {C T I A B O E F X Y : Type 0} {M : Meaning C T I A B O E F} {P : Strea
 
   -- stops,
   pub stopped : {t t' : T} {s : M.State} {u : X} {v : Y} {i : I} {o : O} {f : F} → Within M P U V c x y t s [] u v → StreamPolled P.answers P.pipeline t (Ready (Some i)) t' → M.rule.verdict s i ≡ stops → M.done (M.rule.next s i) o f → Polled M P U V c x y (Done (record { value = o; stream = t'; callback = f })) u v
-  stopped {t' = t'} {s = s} {i = i} w p q d = ends done (M.rule.next s i) (P.answers t') w (reads w p ∙ same_verdict _ _ _ q) (refl, d, refl) (one_more w p) refl
+  stopped w p q d = ends w (reads w p ∙ same_verdict _ _ _ q) (refl, d, refl) (one_more w p)
 
   -- or breaks off.
   pub broken : {t t' : T} {s : M.State} {u : X} {v : Y} {i : I} {e : E} {f : F} → Within M P U V c x y t s [] u v → StreamPolled P.answers P.pipeline t (Ready (Some i)) t' → M.rule.verdict s i ≡ breaks → M.fault (M.rule.next s i) e f → Polled M P U V c x y (Fault (record { value = e; stream = t'; callback = f })) u v
-  broken {t' = t'} {s = s} {i = i} w p q d = ends fault (M.rule.next s i) (P.answers t') w (reads w p ∙ same_verdict _ _ _ q) (refl, d, refl) (one_more w p) refl
+  broken w p q d = ends w (reads w p ∙ same_verdict _ _ _ q) (refl, d, refl) (one_more w p)

@@ -36,7 +36,11 @@ pub trait Consumer: Sized {
 }
 
 // What a poll of the consumer C answers.
-pub type StepOf<C> = Step<C, EndedOf<C, <C as Consumer>::Output>, EndedOf<C, <C as Consumer>::Error>>;
+pub type StepOf<C> = Step<
+    C,
+    EndedOf<C, <C as Consumer>::Output>,
+    EndedOf<C, <C as Consumer>::Error>,
+>;
 
 // What the consumer C hands back at its end, with its output or its fault as V.
 pub type EndedOf<C, V> = Ended<V, <C as Consumer>::Below, <C as Consumer>::Callback>;

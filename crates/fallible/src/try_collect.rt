@@ -26,13 +26,6 @@ impl<S, T> TryCollectFuture<S, T> {
         TryCollectFuture { stream, kept: None }
     }
 
-    // Keeps the item that found no place.
-    fn keeping(stream: S, refusal: PutRefusal<T>) -> TryCollectFuture<S, T>
-        ensures { (result.stream ≡ stream) × (result.kept ≡ Some (item_of refusal)) }
-    {
-        TryCollectFuture { stream, kept: Some(refusal.into_item()) }
-    }
-
     // The stream, and the item that is kept, if any.
     pub fn into_parts(self) -> (S, Option<T>)
         ensures { (result.0 ≡ self.stream) × (result.1 ≡ self.kept) }
@@ -67,7 +60,7 @@ impl<T, E, S: Stream<Item = Result<T, E>>> Consumer for TryCollectFuture<S, T> {
         let TryCollectFuture { stream, kept } = self;
         if let Some(item) = kept {
             if let Err(refusal) = first.put(item) {
-                return Step::Full(TryCollectFuture::keeping(stream, refusal));
+                return Step::Full(keeping(stream, refusal));
             }
         }
         read_on(stream, first, second)
@@ -84,7 +77,7 @@ fn read_on<T, E, S: Stream<Item = Result<T, E>>, X: Sink<Item = T>, Y: Sink<Item
 {
     loop {
         match stream.poll_next() {
-            Poll::Pending => return Step::Wait(TryCollectFuture::new(stream)),
+            Poll::Pending => return Step::Wait(TryCollectFuture { stream, kept: None }),
             Poll::Ready(None) => return Step::Done(Ended {
                 value: (),
                 stream,
@@ -92,7 +85,7 @@ fn read_on<T, E, S: Stream<Item = Result<T, E>>, X: Sink<Item = T>, Y: Sink<Item
             }),
             Poll::Ready(Some(item)) => match offer(first, item) {
                 Ok(Ok(())) => {}
-                Ok(Err(refusal)) => return Step::Full(TryCollectFuture::keeping(stream, refusal)),
+                Ok(Err(refusal)) => return Step::Full(keeping(stream, refusal)),
                 Err(fault) => return Step::Fault(Ended {
                     value: fault,
                     stream,
@@ -100,5 +93,15 @@ fn read_on<T, E, S: Stream<Item = Result<T, E>>, X: Sink<Item = T>, Y: Sink<Item
                 }),
             },
         }
+    }
+}
+
+// The consumer that keeps the item which found no place.
+fn keeping<S, T>(stream: S, refusal: PutRefusal<T>) -> TryCollectFuture<S, T>
+    ensures { (result.stream ≡ stream) × (result.kept ≡ Some (item_of refusal)) }
+{
+    TryCollectFuture {
+        stream,
+        kept: Some(refusal.into_item()),
     }
 }
