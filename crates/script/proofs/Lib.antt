@@ -1,4 +1,4 @@
-mod Faults
-mod Places
-mod Polls
-mod Rightness
+mod Firsts
+mod Answering
+mod Checking
+mod Placing

@@ -1,14 +1,18 @@
 -- The commands of a script, and what a source answers to each.
-use Rattle.std.specs.Prelude.{ℕ, ◌+◌, ◌*◌, cond, List, [], ◌∷◌, Some, None, ◌==◌}
+use Rattle.std.specs.Prelude.{◌≡◌, ℕ, ◌+◌, ◌*◌, cond, List, [], ◌∷◌, Some, None, ◌==◌}
 use Rattle.stream.specs.declared.poll.Poll.TheVariants.{Ready, Pending}
 use Rattle.stream.specs.Answers.{Answer}
 
--- A script is right, and stands for these answers, when it is empty, or when its first command is right and what follows is right: `W` is a wait, `N` a None, and `I` an item, the word of the two bytes after it, high byte first.
+-- Bytes that begin with a command, the answer to it, and the bytes after it: `W` is a wait, `N` a None, and `I` an item, the word of the two bytes after it, high byte first.
+pub data Command : List ℕ → Answer ℕ → List ℕ → Type 0 where
+  wait : {s : List ℕ} → Command (0x57 ∷ s) Pending s
+  none : {s : List ℕ} → Command (0x4E ∷ s) (Ready None) s
+  item : {high low word : ℕ} {s : List ℕ} → word ≡ high * 256 + low → Command (0x49 ∷ high ∷ low ∷ s) (Ready (Some word)) s
+
+-- A script is right, and stands for these answers, when it is empty, or when it begins with a command and what follows is right.
 pub data StandsFor : List ℕ → List (Answer ℕ) → Type 0 where
   empty : StandsFor [] []
-  wait : {s : List ℕ} {l : List (Answer ℕ)} → StandsFor s l → StandsFor (0x57 ∷ s) (Pending ∷ l)
-  none : {s : List ℕ} {l : List (Answer ℕ)} → StandsFor s l → StandsFor (0x4E ∷ s) (Ready None ∷ l)
-  item : {high low : ℕ} {s : List ℕ} {l : List (Answer ℕ)} → StandsFor s l → StandsFor (0x49 ∷ high ∷ low ∷ s) (Ready (Some (high * 256 + low)) ∷ l)
+  command : {s t : List ℕ} {a : Answer ℕ} {l : List (Answer ℕ)} → Command s a t → StandsFor t l → StandsFor s (a ∷ l)
 
 -- A script is right when it stands for some answers.
 abbrev pub Right : List ℕ → Type 0

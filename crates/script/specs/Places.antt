@@ -1,7 +1,8 @@
 -- Where a script is refused, in the words of scripts.
 use Rattle.std.specs.Prelude.{◌≡◌, ℕ, ◌<◌, ◌≤◌, ◌⊎◌, List, [], ◌∷◌, ◌++◌, length, ◌≢◌}
+use Rattle.script.specs.declared.refusal.ScriptFault.{ScriptFault}
+use Rattle.script.specs.declared.refusal.ScriptFault.TheVariants.{TooLong, UnknownCommand, CutShort}
 use Rattle.script.specs.declared.refusal.ScriptRefusal.{ScriptRefusal}
-use Rattle.script.specs.declared.refusal.ScriptRefusal.TheVariants.{TooLong, UnknownCommand, CutShort}
 use Rattle.script.specs.Commands.{Right}
 
 -- Bytes that begin with one that is no command: none of `W`, `N` and `I`.
@@ -31,8 +32,12 @@ pub record FaultAt (Kind : List ℕ → Type 0) (bytes : List ℕ) (place : ℕ)
   -- and the bytes are not too long.
   pub short : length bytes ≤ 4096
 
--- A refusal carries the number of the script as it was given. It is for more than 4,096 bytes, at the place 4,096, or for the fault that stands at its place.
+-- A fault of these bytes is for more than 4,096 of them, at the place 4,096, or it stands at its place.
+abbrev pub FaultRightly : List ℕ → ℕ → ScriptFault → Type 0
+FaultRightly bytes place TooLong = (4096 < length bytes) × (place ≡ 4096)
+FaultRightly bytes place UnknownCommand = FaultAt NoCommand bytes place
+FaultRightly bytes place CutShort = FaultAt CutItem bytes place
+
+-- A refusal carries the number of the script as it was given, and a fault of its bytes.
 abbrev pub RefusedRightly : ℕ → List ℕ → ScriptRefusal → Type 0
-RefusedRightly n bytes (TooLong script place) = (script ≡ n) × (4096 < length bytes) × (place ≡ 4096)
-RefusedRightly n bytes (UnknownCommand script place) = (script ≡ n) × FaultAt NoCommand bytes place
-RefusedRightly n bytes (CutShort script place) = (script ≡ n) × FaultAt CutItem bytes place
+RefusedRightly n bytes e = (e.script ≡ n) × FaultRightly bytes e.place e.fault

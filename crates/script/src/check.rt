@@ -1,21 +1,15 @@
-ghost use Rattle.std.specs.Prelude.{◌≡◌, drop};
-ghost use Rattle.script.specs.Checks.{fault_from};
+ghost use Rattle.script.specs.Beginnings.{Checks};
 
-use crate::command::{ITEM, ITEM_LEN, NONE, WAIT};
-use crate::refusal::ScriptRefusal;
+use crate::command::first_command;
+use crate::refusal::ScriptFault;
 
-// The first fault at a place or after it: the first command is looked at, and then what follows.
-pub fn first_fault(script: u8, bytes: &[u8], at: usize) -> Option<ScriptRefusal>
-    ensures { result ≡ fault_from script at (drop at bytes.now) }
+// The first fault, with how many bytes are left where it stands: the first command is looked at, and then what follows.
+pub fn check(bytes: &[u8]) -> Result<(), (ScriptFault, usize)>
+    ensures { Checks bytes.now result }
 {
-    if at >= bytes.len() {
-        return None;
-    }
-    let place = at as u64;
-    match bytes[at] {
-        WAIT | NONE => first_fault(script, bytes, at + 1),
-        ITEM if bytes.len() - at < ITEM_LEN => Some(ScriptRefusal::CutShort { script, place }),
-        ITEM => first_fault(script, bytes, at + ITEM_LEN),
-        _ => Some(ScriptRefusal::UnknownCommand { script, place }),
+    match first_command(bytes) {
+        Ok(None) => Ok(()),
+        Ok(Some((_, rest))) => check(rest),
+        Err(fault) => Err((fault, bytes.len())),
     }
 }

@@ -1,42 +1,42 @@
 ghost use Rattle.std.specs.Prelude.{◌≡◌};
 ghost use Rattle.script.specs.Refusals.{told};
 
-// Why a row of bytes is no script, with the script's number as the caller gave it.
+// Why a row of bytes is no script.
 #[derive(Clone, Copy, Debug, PartialEq)]
-pub enum ScriptRefusal {
-    TooLong { script: u8, place: u64 },
-    UnknownCommand { script: u8, place: u64 },
-    CutShort { script: u8, place: u64 },
+pub enum ScriptFault {
+    TooLong,
+    UnknownCommand,
+    CutShort,
+}
+
+// A fault, the script's number as the caller gave it, and where the fault stands in its bytes.
+#[derive(Clone, Copy, Debug, PartialEq)]
+pub struct ScriptRefusal {
+    pub fault: ScriptFault,
+    pub script: u8,
+    pub place: u64,
 }
 
 impl ScriptRefusal {
     pub fn number(self) -> u8
         ensures { result ≡ (told self).number }
     {
-        match self {
-            ScriptRefusal::TooLong { .. } => 2,
-            ScriptRefusal::UnknownCommand { .. } => 3,
-            ScriptRefusal::CutShort { .. } => 4,
+        match self.fault {
+            ScriptFault::TooLong => 2,
+            ScriptFault::UnknownCommand => 3,
+            ScriptFault::CutShort => 4,
         }
     }
 
     pub fn script(self) -> u8
         ensures { result ≡ (told self).script }
     {
-        match self {
-            ScriptRefusal::TooLong { script, .. } => script,
-            ScriptRefusal::UnknownCommand { script, .. } => script,
-            ScriptRefusal::CutShort { script, .. } => script,
-        }
+        self.script
     }
 
     pub fn place(self) -> u64
         ensures { result ≡ (told self).place }
     {
-        match self {
-            ScriptRefusal::TooLong { place, .. } => place,
-            ScriptRefusal::UnknownCommand { place, .. } => place,
-            ScriptRefusal::CutShort { place, .. } => place,
-        }
+        self.place
     }
 }

@@ -1,20 +1,24 @@
-use Rattle.std.proofs.Common.{◌≤◌, length, sym, refl, ◌∙◌, arith}
-use Rattle.std.proofs.lemmas.Bool.{le-ltb, cond-false}
-use Rattle.script.proofs.Places.{refused_rightly}
-use Rattle.script.proofs.Rightness.{no_fault, right, refused}
+use Rattle.std.proofs.Common.{Err, refl, ◌∙◌, arith, rules}
+use Rattle.script.specs.Commands.{Right}
+use Rattle.script.specs.Checks.{Checked}
+use Rattle.script.proofs.Answering.{says}
+use Rattle.script.proofs.Placing.{by_fault, no_fault, checked}
 use Rattle.script.proofs.script.Script.new.Goals as goal
 
-pub returns-in-Some : goal.returns-in-Some
-returns-in-Some c =
-    let bytes = c.args.bytes.now in
-    let few : length bytes ≤ 4096 = omega arith in
-    let short = cond-false _ _ _ (le-ltb 4096 (length bytes) few) in
-    let fault = sym c.first_fault.ensures ∙ c.in-Some.is in
-    (short ∙ fault, λ w. absurd (refused (sym fault ∙ no_fault c.args.number 0 w.1)), refused_rightly c.args.number bytes _ few fault)
+pub returns-in_err-map_err : goal.returns-in_err-map_err
+returns-in_err-map_err c =
+    let h = checked c.args.bytes.now (omega arith) c.args.number c.check.result c.check.ensures c.map_err.result (search rules) in
+    let k : Checked c.args.number c.args.bytes.now (Err c.in_err-map_err.field-0.0) = rw c.in_err-map_err.was at h in
+    search (rules, k)
 
-pub returns-in-None : goal.returns-in-None
-returns-in-None c =
-    let bytes = c.args.bytes.now in
-    let short = cond-false _ _ _ (le-ltb 4096 (length bytes) (omega arith)) in
-    let fault = sym c.first_fault.ensures ∙ c.in-None.is in
-    (short ∙ fault, refl, right c.args.number 0 bytes fault)
+pub invariant_of-result : goal.invariant_of-result
+invariant_of-result c =
+    let h = checked c.args.bytes.now (omega arith) c.args.number c.check.result c.check.ensures c.map_err.result (search rules) in
+    let right : Right c.args.bytes.now = rw c.in_ok-map_err.was at h in
+    record { right = says right }
+
+pub returns : goal.returns
+returns c =
+    let h = checked c.args.bytes.now (omega arith) c.args.number c.check.result c.check.ensures c.map_err.result (search rules) in
+    let right : Right c.args.bytes.now = rw c.in_ok-map_err.was at h in
+    (by_fault c.args.bytes.now (omega arith) c.args.number ∙ no_fault c.args.number right, refl, says right)
