@@ -11,12 +11,13 @@ const NOT_IMPLEMENTED: (u16, u16) = (0x8000, 0x0000);
 pub fn join(pair: u64, high: u16, low: u16) -> Result<i32, Fault>
     ensures { result ≡ reading pair high low }
 {
-    if high == NOT_IMPLEMENTED.0 && low == NOT_IMPLEMENTED.1 {
+    if (high, low) == NOT_IMPLEMENTED {
         return Err(Fault::NotImplemented {
             layer: Layer::Reading,
             pair,
         });
     }
+    // No conversion takes two words: one from bytes would need them taken apart first.
     let bits = u32::from(high) * 0x10000 + u32::from(low);
     Ok(bits.cast_signed())
 }
