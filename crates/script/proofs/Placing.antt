@@ -6,7 +6,7 @@ use Rattle.stream.specs.Answers.{Answer}
 use Rattle.script.specs.declared.refusal.ScriptFault.{ScriptFault}
 use Rattle.script.specs.declared.refusal.ScriptFault.TheVariants.{TooLong, UnknownCommand, CutShort}
 use Rattle.script.specs.declared.refusal.ScriptRefusal.{ScriptRefusal}
-use Rattle.script.specs.Commands.{Right, StandsFor, wait, none, item, empty, command}
+use Rattle.script.specs.Commands.{Right, StandsFor, wait, none, item, empty, next}
 use Rattle.script.specs.Places.{FaultAt, FaultRightly}
 use Rattle.script.specs.Beginnings.{FaultAfter, Faulty, Checks}
 use Rattle.script.specs.Checks.{Checked, fault_from, refusal}
@@ -17,9 +17,9 @@ refused_at fault n place = record { fault = fault; script = n; place = place }
 -- a right script is passed over
 past : {b : List ℕ} {l : List (Answer ℕ)} (n p : ℕ) (r : List ℕ) → StandsFor b l → (q : ℕ) → q ≡ p + length b → fault_from n p (b ++ r) ≡ fault_from n q r
 past n p r empty q h = let i : p ≡ q = omega arith in ap (λ k. fault_from n k r) i
-past n p r (command wait w) q h = past n (p + 1) r w q (omega arith)
-past n p r (command none w) q h = past n (p + 1) r w q (omega arith)
-past n p r (command (item e) w) q h = past n (p + 3) r w q (omega arith)
+past n p r (next wait w) q h = past n (p + 1) r w q (omega arith)
+past n p r (next none w) q h = past n (p + 1) r w q (omega arith)
+past n p r (next (item e) w) q h = past n (p + 3) r w q (omega arith)
 
 pub no_fault : {s : List ℕ} (n : ℕ) → Right s → fault_from n 0 s ≡ None
 no_fault {s = s} n w = ap (fault_from n 0) (sym (append-nil s)) ∙ past n 0 [] w.1 (length s) (omega arith)

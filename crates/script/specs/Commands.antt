@@ -12,7 +12,7 @@ pub data Command : List ℕ → Answer ℕ → List ℕ → Type 0 where
 -- A script is right, and stands for these answers, when it is empty, or when it begins with a command and what follows is right.
 pub data StandsFor : List ℕ → List (Answer ℕ) → Type 0 where
   empty : StandsFor [] []
-  command : {s t : List ℕ} {a : Answer ℕ} {l : List (Answer ℕ)} → Command s a t → StandsFor t l → StandsFor s (a ∷ l)
+  next : {s t : List ℕ} {a : Answer ℕ} {l : List (Answer ℕ)} → Command s a t → StandsFor t l → StandsFor s (a ∷ l)
 
 -- A script is right when it stands for some answers.
 abbrev pub Right : List ℕ → Type 0
