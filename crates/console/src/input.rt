@@ -6,19 +6,21 @@ use std::io::Read;
 // How many bytes of standard input the program `watts` reads.
 pub const INPUT_LEN: usize = 16384;
 
-// Reads until the buffer is full or the input ends, and says how many bytes came.
-pub fn read_up_to<R: Read>(reader: &mut R, buffer: &mut [u8]) -> io::Result<usize>
-    ensures { IfOk result (λ n. n ≤ length buffer.old) }
+// Reads until the buffer is full or the input ends, and answers what came.
+pub fn read_up_to<'a, R: Read>(reader: &mut R, buffer: &'a mut [u8]) -> io::Result<&'a [u8]>
+    ensures fits { IfOk result (λ read. length read.now ≤ length buffer.old) }
 {
-    let mut len = 0;
-    while len < buffer.len() {
-        let count = reader.read(&mut buffer[len..])?;
+    let mut rest = &mut *buffer;
+    while !rest.is_empty() {
+        let count = reader.read(rest)?;
         if count == 0 {
             break;
         }
-        len += count;
+        rest = &mut rest[count..];
     }
-    Ok(len)
+    let left = rest.len();
+    let (read, _) = buffer.split_at(buffer.len() - left);
+    Ok(read)
 }
 
 #[cfg(test)]
@@ -38,8 +40,8 @@ mod tests {
         fn read(&mut self, buf: &mut [u8]) -> io::Result<usize> {
             let count = self.left.min(self.piece).min(buf.len());
             self.left -= count;
-            for i in 0..count {
-                buf[i] = self.next;
+            for byte in &mut buf[..count] {
+                *byte = self.next;
                 self.next = (self.next % 251).wrapping_add(1);
             }
             Ok(count)
@@ -54,15 +56,9 @@ mod tests {
             next: 1,
         };
         let mut buffer = [0u8; INPUT_LEN];
-        let len = read_up_to(&mut input, &mut buffer)?;
-        let mut next = 1u8;
-        for byte in &buffer[0..len] {
-            if *byte != next {
-                return Ok((len, input.left, false));
-            }
-            next = (next % 251).wrapping_add(1);
-        }
-        Ok((len, input.left, true))
+        let read = read_up_to(&mut input, &mut buffer)?;
+        let in_order = read.iter().zip((1..=251).cycle()).all(|(byte, next)| *byte == next);
+        Ok((read.len(), input.left, in_order))
     }
 
     #[test]

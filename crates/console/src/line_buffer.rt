@@ -1,6 +1,6 @@
-ghost use Rattle.std.specs.Prelude.{◌≤◌};
 ghost use Rattle.console.specs.declared.line_buffer.TheConstants.{LINE_LEN};
 
+use arrayvec::ArrayVec;
 use std::io;
 use std::io::Write;
 
@@ -11,13 +11,11 @@ const LINE_LEN: usize = 1024;
 #[derive(Drop)]
 pub struct LineBuffer<W> {
     writer: W,
-    line: [u8; LINE_LEN],
-    len: usize,
-    ghost fits: { len ≤ LINE_LEN },
+    line: ArrayVec<u8, LINE_LEN>,
 }
 
 impl<W: Write> LineBuffer<W> {
-    ghost use Rattle.std.specs.Prelude.{◌≡◌, ◌+◌, ◌<◌, [], ◌++◌, length, OnOk};
+    ghost use Rattle.std.specs.Prelude.{◌≡◌, ◌+◌, ◌≤◌, [], length, OnOk};
     ghost use Rattle.std.specs.Io.KnownBytes.{Appends, Keeps};
     ghost use Rattle.console.specs.LineBuffers.{given, kept};
 
@@ -26,52 +24,30 @@ impl<W: Write> LineBuffer<W> {
     {
         LineBuffer {
             writer,
-            line: [0; LINE_LEN],
-            len: 0,
+            line: ArrayVec::new(),
         }
     }
 
-    // Keeps the bytes, and writes what it kept where they find no place. What is longer than a line is written at once.
+    // Keeps the bytes, and writes what it kept where they find no room. What is longer than a line is written at once.
     pub fn write_all(&mut self, text: &[u8]) -> io::Result<()>
         ensures { OnOk result (Appends (given W.contents self.old) (given W.contents self.new) text.now) }
     {
-        self.make_room(text.len())?;
-        if text.len() > LINE_LEN {
-            return self.writer.write_all(text);
-        }
-        self.keep(text);
-        Ok(())
-    }
-
-    // Makes room for so many bytes, or, where they are more than a line, all the room that there is.
-    fn make_room(&mut self, count: usize) -> io::Result<()>
-        ensures same { OnOk result (Keeps (given W.contents self.old) (given W.contents self.new)) }
-        ensures room { OnOk result (count ≤ LINE_LEN → self.new.len + count ≤ LINE_LEN) }
-        ensures all { OnOk result (LINE_LEN < count → self.new.len ≡ 0) }
-    {
-        if count > LINE_LEN - self.len {
+        if text.len() > self.line.remaining_capacity() {
             self.flush()?;
         }
-        Ok(())
-    }
-
-    // Keeps the bytes, for which there is room.
-    fn keep(&mut self, text: &[u8])
-        requires { self.old.len + length text.now ≤ LINE_LEN }
-        ensures writer { self.new.writer ≡ self.old.writer }
-        ensures kept { kept self.new ≡ kept self.old ++ text.now }
-    {
-        self.line[self.len..self.len + text.len()].copy_from_slice(text);
-        self.len += text.len();
+        match self.line.try_extend_from_slice(text) {
+            Ok(()) => Ok(()),
+            Err(_) => self.writer.write_all(text),
+        }
     }
 
     // Writes what it kept.
     pub fn flush(&mut self) -> io::Result<()>
         ensures sent { OnOk result (Appends (W.contents self.old.writer) (W.contents self.new.writer) (kept self.old)) }
-        ensures empty { OnOk result (self.new.len ≡ 0) }
+        ensures empty { OnOk result (kept self.new ≡ []) }
     {
-        self.writer.write_all(&self.line[..self.len])?;
-        self.len = 0;
+        self.writer.write_all(&self.line)?;
+        self.line.clear();
         Ok(())
     }
 }

@@ -1,8 +1,8 @@
-use Rattle.std.proofs.Common.{◌-◌, ◌≤◌, length}
+use Rattle.std.proofs.Common.{◌≤◌, length}
 use Rattle.console.proofs.input.read_up_to.Given as goal
 
-abbrev pub invariant-loop-len : goal.invariant-loop-len
-invariant-loop-len g l = l.len ≤ length l.initial.buffer
+abbrev pub invariant-loop-reader : goal.invariant-loop-reader
+invariant-loop-reader g l = length l.rest ≤ length l.initial.rest
 
-abbrev pub decreases-loop-len : goal.decreases-loop-len
-decreases-loop-len g l = length l.initial.buffer - l.len
+abbrev pub decreases-loop-reader : goal.decreases-loop-reader
+decreases-loop-reader g l = length l.rest
