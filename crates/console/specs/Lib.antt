@@ -1,1 +1,2 @@
 pub mod LineBuffers
+pub mod Readers

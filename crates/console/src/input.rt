@@ -1,4 +1,6 @@
-ghost use Rattle.std.specs.Prelude.{◌≤◌, length, IfOk};
+ghost use Rattle.std.specs.Prelude.{◌<◌, ◌≤◌, length, IfOk};
+ghost use Rattle.std.specs.Io.KnownBytes.{IsAtEnd};
+ghost use Rattle.console.specs.Readers.{Gives};
 
 use std::io;
 use std::io::Read;
@@ -9,6 +11,8 @@ pub const INPUT_LEN: usize = 16384;
 // Reads until the buffer is full or the input ends, and answers what came.
 pub fn read_up_to<'a, R: Read>(reader: &mut R, buffer: &'a mut [u8]) -> io::Result<&'a [u8]>
     ensures fits { IfOk result (λ read. length read.now ≤ length buffer.old) }
+    ensures count { IfOk result (λ read. Gives (R.remaining reader.old) (R.remaining reader.new) (length read.now)) }
+    ensures end { IfOk result (λ read. length read.now < length buffer.old → IsAtEnd (R.remaining reader.new)) }
 {
     let mut rest = &mut *buffer;
     while !rest.is_empty() {
@@ -19,8 +23,7 @@ pub fn read_up_to<'a, R: Read>(reader: &mut R, buffer: &'a mut [u8]) -> io::Resu
         rest = &mut rest[count..];
     }
     let left = rest.len();
-    let (read, _) = buffer.split_at(buffer.len() - left);
-    Ok(read)
+    Ok(&buffer[..buffer.len() - left])
 }
 
 #[cfg(test)]
@@ -57,7 +60,10 @@ mod tests {
         };
         let mut buffer = [0u8; INPUT_LEN];
         let read = read_up_to(&mut input, &mut buffer)?;
-        let in_order = read.iter().zip((1..=251).cycle()).all(|(byte, next)| *byte == next);
+        let in_order = read
+            .iter()
+            .zip((1..=251).cycle())
+            .all(|(byte, next)| *byte == next);
         Ok((read.len(), input.left, in_order))
     }
 

@@ -1,5 +1,3 @@
-ghost use Rattle.console.specs.declared.line_buffer.TheConstants.{LINE_LEN};
-
 use arrayvec::ArrayVec;
 use std::io;
 use std::io::Write;
@@ -15,8 +13,9 @@ pub struct LineBuffer<W> {
 }
 
 impl<W: Write> LineBuffer<W> {
-    ghost use Rattle.std.specs.Prelude.{◌≡◌, ◌+◌, ◌≤◌, [], length, OnOk};
-    ghost use Rattle.std.specs.Io.KnownBytes.{Appends, Keeps};
+    ghost use Rattle.std.specs.Prelude.{◌≡◌, true, [], OnOk};
+    ghost use Rattle.std.specs.Io.BufRead.{ends_with_byte};
+    ghost use Rattle.std.specs.Io.KnownBytes.{Appends};
     ghost use Rattle.console.specs.LineBuffers.{given, kept};
 
     pub fn new(writer: W) -> LineBuffer<W>
@@ -39,6 +38,18 @@ impl<W: Write> LineBuffer<W> {
             Ok(()) => Ok(()),
             Err(_) => self.writer.write_all(text),
         }
+    }
+
+    // Takes the text, and writes what it kept where the text ends a line.
+    pub fn write_text(&mut self, text: &[u8]) -> io::Result<()>
+        ensures all { OnOk result (Appends (given W.contents self.old) (given W.contents self.new) text.now) }
+        ensures line { OnOk result (ends_with_byte 10 text.now ≡ true → kept self.new ≡ []) }
+    {
+        self.write_all(text)?;
+        if text.ends_with(b"\n") {
+            self.flush()?;
+        }
+        Ok(())
     }
 
     // Writes what it kept.

@@ -11,15 +11,15 @@ const LIST_LEN: usize = 65536;
 // Runs the inputs of a list, each behind its length in two bytes, high byte first, with a blank line after the lines of
 // each. A last input that is cut short is run as it is.
 fn main(rt: HostRuntime) -> io::Result<()> {
-    let mut list = [0u8; LIST_LEN];
-    let len = read_up_to(&mut rt.stdin(), &mut list)?;
-    let mut rest = &list[0..len];
+    let mut buffer = [0u8; LIST_LEN];
+    let mut rest = read_up_to(&mut rt.stdin(), &mut buffer)?;
     while let [high, low, inputs @ ..] = rest {
         let length = usize::from(u16::from_be_bytes([*high, *low])).min(inputs.len());
-        let (output, written) = write_report(&inputs[0..length], Output::new(&rt));
+        let (input, next) = inputs.split_at(length);
+        let (output, written) = write_report(input, Output::new(&rt));
         output.finish(written)?;
         println!(rt)?;
-        rest = &inputs[length..];
+        rest = next;
     }
     Ok(())
 }

@@ -6,8 +6,8 @@ use gateway::printer::write_report;
 use std::io;
 
 fn main(rt: HostRuntime) -> io::Result<()> {
-    let mut input = [0u8; INPUT_LEN];
-    let len = read_up_to(&mut rt.stdin(), &mut input)?;
-    let (output, written) = write_report(&input[0..len], Output::new(&rt));
+    let mut buffer = [0u8; INPUT_LEN];
+    let input = read_up_to(&mut rt.stdin(), &mut buffer)?;
+    let (output, written) = write_report(input, Output::new(&rt));
     output.finish(written)
 }
