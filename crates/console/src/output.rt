@@ -1,4 +1,4 @@
-ghost use Rattle.std.specs.Prelude.{◌≡◌, true, is_ok};
+ghost use Rattle.std.specs.Prelude.{◌≡◌, true, is_ok, Err};
 
 use crate::line_buffer::LineBuffer;
 use std::io::Stdout;
@@ -26,6 +26,13 @@ impl Output {
         lines?.flush()?;
         printed.map_err(|_| io::Error::other("formatter error"))
     }
+
+    // Puts the failure in place of the lines. Inside `write_str` each call would pay for the room of a second `Output`.
+    fn fail(&mut self, failure: io::Error)
+        ensures { self.new.lines ≡ Err failure }
+    {
+        self.lines = Err(failure);
+    }
 }
 
 impl fmt::Write for Output {
@@ -37,7 +44,7 @@ impl fmt::Write for Output {
             return Err(fmt::Error);
         };
         if let Err(failure) = lines.write_text(s.as_bytes()) {
-            self.lines = Err(failure);
+            self.fail(failure);
             return Err(fmt::Error);
         }
         Ok(())
