@@ -6,6 +6,7 @@ use crate::sink::Sink;
 // A sink that keeps items in order in a row that its caller lends.
 #[derive(Drop)]
 pub struct RowSink<'a, T> {
+    // The places are the caller's, since the library takes no memory of its own.
     row: &'a mut [T],
     // How many of the row's first elements are items.
     len: usize,
