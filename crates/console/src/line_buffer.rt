@@ -34,6 +34,7 @@ impl<W: Write> LineBuffer<W> {
         if text.len() > self.line.remaining_capacity() {
             self.flush()?;
         }
+        // No `or_else`: what its closure would leave in the writer is not known to the proof.
         match self.line.try_extend_from_slice(text) {
             Ok(()) => Ok(()),
             Err(_) => self.writer.write_all(text),

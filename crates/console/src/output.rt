@@ -40,6 +40,7 @@ impl fmt::Write for Output {
     ghost write_str_gives = { λ s _ t. (is_ok s.lines ≡ true) × (is_ok t.lines ≡ true) };
 
     fn write_str(&mut self, s: &str) -> fmt::Result {
+        // No combinators: the prover does not cover `as_mut` with `?`, nor what a closure in `map_err` would leave in `self`.
         let Ok(lines) = &mut self.lines else {
             return Err(fmt::Error);
         };
