@@ -1,5 +1,4 @@
 pub mod MapRule
-pub mod MapAgrees
 pub mod MapPipeline
 pub mod MapWhileRule
 pub mod MapWhilePipeline

@@ -1,4 +1,5 @@
 // Adapters that turn each item into one answer.
+// Each is a type of its own, though all hold a stream and a callback: the names are those of the library that they come from, and each type has its own rule.
 #![tactic(auto)]
 
 pub mod map;

@@ -1,11 +1,12 @@
 ghost use Rattle.std.specs.Prelude.{◌≡◌};
 ghost use Rattle.stream.specs.Answers.{first, rest};
+ghost use Rattle.stream.specs.Itemwise.{called};
 ghost use Rattle.stream.specs.Pipelines.{Polled};
 ghost use Rattle.transform.specs.MapPipeline.{map_answers, map_pipeline};
-ghost use Rattle.transform.specs.MapRule.{called};
 
 use stream::callback::Callback;
 use stream::poll::Poll;
+use stream::ready;
 use stream::stream::Stream;
 
 // Replaces each item by the callback's output.
@@ -43,10 +44,10 @@ impl<S: Stream, F: Callback<Input = S::Item>> Stream for Map<S, F> {
         ensures stream { S.Stream.answers self.new.stream ≡ rest (S.Stream.answers self.old.stream) }
         ensures callback { self.new.f ≡ called F.Callback.next self.old.f (first (S.Stream.answers self.old.stream)) }
     {
-        match self.stream.poll_next() {
-            Poll::Pending => Poll::Pending,
-            Poll::Ready(None) => Poll::Ready(None),
-            Poll::Ready(Some(item)) => Poll::Ready(Some(self.f.call(item))),
+        // Not `map`: of a closure that it does not call, its contract does not say that what the closure borrowed is as it was.
+        match ready!(self.stream.poll_next()) {
+            None => Poll::Ready(None),
+            Some(item) => Poll::Ready(Some(self.f.call(item))),
         }
     }
 }

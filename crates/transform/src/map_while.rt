@@ -6,6 +6,7 @@ ghost use Rattle.transform.specs.MapWhilePipeline.{map_while_answers, map_while_
 
 use stream::callback::Callback;
 use stream::poll::Poll;
+use stream::ready;
 use stream::stream::Stream;
 
 // Turns each item into the callback's output, or into None, and goes on at the next poll.
@@ -43,10 +44,10 @@ impl<S: Stream, P: Callback<Input = S::Item, Output = Option<T>>, T> Stream for 
         ensures stream { S.Stream.answers self.new.stream ≡ rest (S.Stream.answers self.old.stream) }
         ensures callback { self.new.predicate ≡ called P.Callback.next self.old.predicate (first (S.Stream.answers self.old.stream)) }
     {
-        match self.stream.poll_next() {
-            Poll::Pending => Poll::Pending,
-            Poll::Ready(None) => Poll::Ready(None),
-            Poll::Ready(Some(item)) => Poll::Ready(self.predicate.call(item)),
+        // Not `and_then`: of a closure that it does not call, its contract does not say that what the closure borrowed is as it was.
+        match ready!(self.stream.poll_next()) {
+            None => Poll::Ready(None),
+            Some(item) => Poll::Ready(self.predicate.call(item)),
         }
     }
 }

@@ -6,9 +6,11 @@ ghost use Rattle.transform.specs.ScanPipeline.{scan_answers, scan_pipeline};
 
 use stream::callback::Callback;
 use stream::poll::Poll;
+use stream::ready;
 use stream::stream::Stream;
 
 // Turns each item into the callback's output, or into None, and goes on at the next poll. The callback holds the state.
+// MapWhile does the same; both stay, since the library that they come from names both.
 #[derive(Drop)]
 pub struct Scan<S, F> {
     stream: S,
@@ -43,10 +45,10 @@ impl<S: Stream, F: Callback<Input = S::Item, Output = Option<T>>, T> Stream for 
         ensures stream { S.Stream.answers self.new.stream ≡ rest (S.Stream.answers self.old.stream) }
         ensures callback { self.new.f ≡ called F.Callback.next self.old.f (first (S.Stream.answers self.old.stream)) }
     {
-        match self.stream.poll_next() {
-            Poll::Pending => Poll::Pending,
-            Poll::Ready(None) => Poll::Ready(None),
-            Poll::Ready(Some(item)) => Poll::Ready(self.f.call(item)),
+        // Not `and_then`: of a closure that it does not call, its contract does not say that what the closure borrowed is as it was.
+        match ready!(self.stream.poll_next()) {
+            None => Poll::Ready(None),
+            Some(item) => Poll::Ready(self.f.call(item)),
         }
     }
 }

@@ -6,6 +6,7 @@ ghost use Rattle.transform.specs.TakeWhilePipeline.{take_while_answers, take_whi
 
 use stream::callback::Callback;
 use stream::poll::Poll;
+use stream::ready;
 use stream::stream::Stream;
 
 // Turns each item that the callback turns down into None, and goes on at the next poll.
@@ -46,16 +47,9 @@ where
         ensures stream { S.Stream.answers self.new.stream ≡ rest (S.Stream.answers self.old.stream) }
         ensures callback { self.new.predicate ≡ called P.Callback.next self.old.predicate (first (S.Stream.answers self.old.stream)) }
     {
-        match self.stream.poll_next() {
-            Poll::Pending => Poll::Pending,
-            Poll::Ready(None) => Poll::Ready(None),
-            Poll::Ready(Some(item)) => {
-                if self.predicate.call(item) {
-                    Poll::Ready(Some(item))
-                } else {
-                    Poll::Ready(None)
-                }
-            }
+        match ready!(self.stream.poll_next()) {
+            None => Poll::Ready(None),
+            Some(item) => Poll::Ready(self.predicate.call(item).then_some(item)),
         }
     }
 }
