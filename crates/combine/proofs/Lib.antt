@@ -1,3 +1,2 @@
-pub mod Never
 pub mod Zipping
 pub mod Chaining

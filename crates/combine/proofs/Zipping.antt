@@ -1,47 +1,32 @@
 -- One poll of Zip: first an item is kept, and then the second stream is polled.
 use Rattle.std.proofs.Common.{◌≡◌, ℕ, true, List, [], ◌∷◌, is_some, Some, None, Option, sym, refl, ap, ◌∙◌, subst, ap₂}
+use Rattle.std.specs.Option.{IsSomeAnd, MatchOption}
 use Rattle.stream.specs.declared.poll.Poll.TheVariants.{Ready, Pending}
 use Rattle.stream.specs.declared.stream.Stream.{Ghosts as Streams}
 use Rattle.stream.specs.Answers.{Answer, NoItem, first, rest, waits_in}
 use Rattle.stream.specs.Pipelines.{Polled}
+use Rattle.stream.proofs.Cases.{answered_as, at_item, never}
+use Rattle.stream.proofs.Passing.{at_no_item, passed, passed_waits}
 use Rattle.combine.specs.declared.zip.Zip.{Zip}
 use Rattle.combine.specs.ZipRule.{kept, kept_after, zipped, zipped_from}
 use Rattle.combine.specs.ZipPipeline.{ZipTook, zip_answers, zip_pipeline}
 use Rattle.combine.specs.ZipPipeline.ZipTook.{first_only, both_polled, second_only}
-use Rattle.combine.proofs.Never.{never}
 
--- what a Zip answers where its first stream answers no item
-abbrev pub passed : {A B : Type 0} (r : Answer A) → NoItem r → Answer B
-passed Pending h = Pending
-passed (Ready None) h = Ready None
-passed (Ready (Some x)) h = absurd h
-
-passed_waits : {A : Type 0} (B : Type 0) (r : Answer A) (h : NoItem r) → waits_in (passed {B = B} r h) ≡ waits_in r
-passed_waits B Pending h = refl
-passed_waits B (Ready None) h = refl
-passed_waits B (Ready (Some x)) h = absurd h
-
-at_no_item : {A B : Type 0} (r : Answer A) (h : NoItem r) (xs : List (Answer A)) (ys : List (Answer B)) → r ≡ first xs → (passed r h ≡ first (zipped xs ys)) × (zipped (rest xs) ys ≡ rest (zipped xs ys))
-at_no_item Pending h [] ys e = never (cc)
-at_no_item Pending h (Pending ∷ xs) ys e = (refl, refl)
-at_no_item Pending h (Ready o ∷ xs) ys e = never (cc)
-at_no_item (Ready None) h [] ys e = (refl, refl)
-at_no_item (Ready None) h (Pending ∷ xs) ys e = never (cc)
-at_no_item (Ready None) h (Ready None ∷ xs) ys e = (refl, refl)
-at_no_item (Ready None) h (Ready (Some x) ∷ xs) ys e = never (cc)
-at_no_item (Ready (Some x)) h xs ys e = absurd h
-
-at_item : {A B : Type 0} (x : A) (xs : List (Answer A)) (ys : List (Answer B)) → Ready (Some x) ≡ first xs → zipped xs ys ≡ kept x (zipped (rest xs)) ys
-at_item x [] ys e = never (cc)
-at_item x (Pending ∷ xs) ys e = never (cc)
-at_item x (Ready None ∷ xs) ys e = never (cc)
-at_item x (Ready (Some z) ∷ xs) ys e = let h : z ≡ x = cc in ap (λ v. kept v (zipped xs) ys) h
+-- where the first stream answers an item x, it is kept
+first_kept : {A B : Type 0} (x : A) (xs : List (Answer A)) (ys : List (Answer B)) → Ready (Some x) ≡ first xs → zipped xs ys ≡ kept x (zipped (rest xs)) ys
+first_kept x xs ys e = at_item (λ l. zipped l ys ≡ kept x (zipped (rest l)) ys) x xs e (λ l z q. ap (λ v. kept v (zipped l) ys) (sym q))
 
 -- what a Zip that keeps x answers where its second stream answers r
 abbrev pub paired : {A B : Type 0} → A → Answer B → Answer (A × B)
 paired x Pending = Pending
 paired x (Ready None) = Ready None
 paired x (Ready (Some y)) = Ready (Some (x, y))
+
+-- it is what `map` makes of r by a closure that pairs x', which is x, with what r holds
+paired_by_map : {A B : Type 0} (P : B → A × B → Type 0) (x x' : A) (o : Option B) (r : Option (A × B)) → x' ≡ x → ((y : B) (q : A × B) → P y q → q ≡ (x', y)) → MatchOption o (r ≡ None) (λ y. IsSomeAnd r (P y)) → paired x (Ready o) ≡ Ready r
+paired_by_map P x x' None r e h m = ap (λ z. Ready z) (sym m)
+paired_by_map P x x' (Some y) None e h m = absurd m
+paired_by_map P x x' (Some y) (Some q) e h m = let k = h y q m in cc
 
 paired_waits : {A B : Type 0} (x : A) (r : Answer B) → waits_in (paired x r) ≡ waits_in r
 paired_waits x Pending = refl
@@ -60,17 +45,13 @@ kept_rest x xs (Pending ∷ ys) = refl
 kept_rest x xs (Ready None ∷ ys) = refl
 kept_rest x xs (Ready (Some y) ∷ ys) = refl
 
--- a poll that answered o, where the equation at hand has another term for o
-pub read_as : {S A : Type 0} (below : Streams S A) (s : S) (o o' : Option A) (t : S) → Polled below.answers below.pipeline s (Ready o) t → Ready o' ≡ first (below.answers s) → Polled below.answers below.pipeline s (Ready o') t
-read_as below s o o' t p e = record { answer = e; after = p.after; took = p.took }
-
 module _ {S T A B : Type 0} (one : Streams S A) (two : Streams T B) where
   -- where only the first stream was polled
   pub first_polled : (z : Zip S T A) (s : S) (r : Answer A) (n : NoItem r) → z.item_slot ≡ None → Polled one.answers one.pipeline z.first r s → Polled (zip_answers one two) (zip_pipeline one two) z (passed r n) (record { item_slot = z.item_slot; first = s; second = z.second })
   first_polled z s r n e p =
       let xs = one.answers z.first in
       let ys = two.answers z.second in
-      let h = at_no_item r n xs ys p.answer in
+      let h = at_no_item (λ l. zipped l ys) (refl, refl) (λ l. (refl, refl)) (λ l. (refl, refl)) r n xs p.answer in
       let before : zip_answers one two z ≡ zipped xs ys = ap (λ o. zipped_from o xs ys) e in
       record {
         answer = h.0 ∙ sym (ap first before);
@@ -85,13 +66,17 @@ module _ {S T A B : Type 0} (one : Streams S A) (two : Streams T B) where
     pub answers : zip_answers one two z ≡ kept item (zipped (one.answers n.first)) (two.answers n.second)
     pub took : (w : ℕ) (r : Answer B) (z' : Zip S T A) → z'.first ≡ n.first → Polled two.answers two.pipeline n.second r z'.second → z'.item_slot ≡ kept_after item r → w ≡ waits_in r → ZipTook one two z w z'
 
-  pub brought : (z n : Zip S T A) (x : A) → z.item_slot ≡ None → Polled one.answers one.pipeline z.first (Ready (Some x)) n.first → n.second ≡ z.second → n.item_slot ≡ Some x → Primed z n
-  brought z n x e p s e' = record {
-    item = x;
-    slot = e';
-    answers = ap (λ o. zipped_from o (one.answers z.first) (two.answers z.second)) e ∙ at_item x (one.answers z.first) (two.answers z.second) p.answer ∙ ap₂ (λ xs t. kept x (zipped xs) (two.answers t)) (sym p.after) (sym s);
-    took = λ w r z' f q o v. both_polled x r e (subst (Polled one.answers one.pipeline z.first (Ready (Some x))) (sym f) p) (subst (λ t. Polled two.answers two.pipeline t r z'.second) s q) o v;
-  }
+  pub brought : (z n : Zip S T A) → z.item_slot ≡ None → Polled one.answers one.pipeline z.first (Ready n.item_slot) n.first → n.second ≡ z.second → (n.item_slot ≡ None → ⊥) → Primed z n
+  brought z n e p s some = go n.item_slot refl p some
+    where
+      go : (o : Option A) → n.item_slot ≡ o → Polled one.answers one.pipeline z.first (Ready o) n.first → (o ≡ None → ⊥) → Primed z n
+      go None e' p some = absurd (some refl)
+      go (Some x) e' p some = record {
+        item = x;
+        slot = e';
+        answers = ap (λ o. zipped_from o (one.answers z.first) (two.answers z.second)) e ∙ first_kept x (one.answers z.first) (two.answers z.second) p.answer ∙ ap₂ (λ xs t. kept x (zipped xs) (two.answers t)) (sym p.after) (sym s);
+        took = λ w r z' f q o v. both_polled x r e (subst (Polled one.answers one.pipeline z.first (Ready (Some x))) (sym f) p) (subst (λ t. Polled two.answers two.pipeline t r z'.second) s q) o v;
+      }
 
   pub kept_already : (z : Zip S T A) → is_some z.item_slot ≡ true → Primed z z
   kept_already z e = go z.item_slot refl e
@@ -117,8 +102,7 @@ module _ {S T A B : Type 0} (one : Streams S A) (two : Streams T B) where
         took = p.took (waits_in (paired x r)) r (record { item_slot = o; first = n.first; second = t }) refl q e (paired_waits x r);
       }
 
-  -- where it brought an item, and x is the one that was kept
-  pub pair_made : (z n : Zip S T A) (p : Primed z n) (o : Option A) (t : T) (x : A) (y : B) → x ≡ p.item → o ≡ None → Polled two.answers two.pipeline n.second (Ready (Some y)) t → Polled (zip_answers one two) (zip_pipeline one two) z (Ready (Some (x, y))) (record { item_slot = o; first = n.first; second = t })
-  pair_made z n p o t x y same e q =
-      subst (λ v. Polled (zip_answers one two) (zip_pipeline one two) z (Ready (Some (v, y))) (record { item_slot = o; first = n.first; second = t })) (sym same)
-      (second_polled z n p o t (Ready (Some y)) e q)
+  -- where `map` made r of what it answered, by a closure that pairs what was kept with an item
+  pub pair_made : (z n : Zip S T A) (p : Primed z n) (o : Option A) (t : T) (P : B → A × B → Type 0) (x : A) (y : Option B) (r : Option (A × B)) → x ≡ p.item → ((v : B) (q : A × B) → P v q → q ≡ (x, v)) → MatchOption y (r ≡ None) (λ v. IsSomeAnd r (P v)) → o ≡ None → Polled two.answers two.pipeline n.second (Ready y) t → Polled (zip_answers one two) (zip_pipeline one two) z (Ready r) (record { item_slot = o; first = n.first; second = t })
+  pair_made z n p o t P x y r same f m e q =
+      answered_as (Ready r) (paired_by_map P p.item x y r same f m) (second_polled z n p o t (Ready y) e q)

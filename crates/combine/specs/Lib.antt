@@ -1,5 +1,4 @@
 pub mod EnumerateRule
-pub mod EnumerateAgrees
 pub mod EnumeratePipeline
 pub mod ZipRule
 pub mod ZipAgrees

@@ -5,6 +5,7 @@ ghost use Rattle.combine.specs.ChainPipeline.{ChainTook, chain_answers, chain_pi
 
 use limit::fuse::Fuse;
 use stream::poll::Poll;
+use stream::ready;
 use stream::stream::Stream;
 
 // Gives the first stream up to its first None, and then the second up to its first None.
@@ -45,10 +46,10 @@ impl<S: Stream, U: Stream<Item = S::Item>> Stream for Chain<S, U> {
         ensures polled { Polled (chain_answers S.Stream U.Stream) (chain_pipeline S.Stream U.Stream) self.old result self.new }
         ensures parts { ChainTook S.Stream U.Stream self.old (waits_in result) self.new }
     {
-        match self.first.poll_next() {
-            Poll::Pending => Poll::Pending,
-            Poll::Ready(Some(item)) => Poll::Ready(Some(item)),
-            Poll::Ready(None) => self.second.poll_next(),
+        match ready!(self.first.poll_next()) {
+            None => self.second.poll_next(),
+            // Not bound whole, as `next => Poll::Ready(next)`: the arm above would then let go a value that need not be Drop.
+            Some(item) => Poll::Ready(Some(item)),
         }
     }
 }

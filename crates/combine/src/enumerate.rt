@@ -1,10 +1,12 @@
 ghost use Rattle.std.specs.Prelude.{◌≡◌};
 ghost use Rattle.stream.specs.Answers.{first, rest};
+ghost use Rattle.stream.specs.Itemwise.{called};
 ghost use Rattle.stream.specs.Pipelines.{Polled};
 ghost use Rattle.combine.specs.EnumeratePipeline.{enumerate_answers, enumerate_pipeline};
-ghost use Rattle.combine.specs.EnumerateRule.{counted};
+ghost use Rattle.combine.specs.EnumerateRule.{next_number};
 
 use stream::poll::Poll;
+use stream::ready;
 use stream::stream::Stream;
 
 // Pairs each item with the number of items before it.
@@ -40,12 +42,11 @@ impl<S: Stream> Stream for Enumerate<S> {
     fn poll_next(&mut self) -> Poll<Option<(u64, S::Item)>>
         ensures polled { Polled (enumerate_answers S.Stream) (enumerate_pipeline S.Stream) self.old result self.new }
         ensures stream { S.Stream.answers self.new.stream ≡ rest (S.Stream.answers self.old.stream) }
-        ensures number { self.new.i ≡ counted self.old.i (first (S.Stream.answers self.old.stream)) }
+        ensures number { self.new.i ≡ called (λ i _. next_number i) self.old.i (first (S.Stream.answers self.old.stream)) }
     {
-        match self.stream.poll_next() {
-            Poll::Pending => Poll::Pending,
-            Poll::Ready(None) => Poll::Ready(None),
-            Poll::Ready(Some(item)) => {
+        match ready!(self.stream.poll_next()) {
+            None => Poll::Ready(None),
+            Some(item) => {
                 let number = self.i;
                 // No stream is too long: past u64::MAX the numbers start again.
                 self.i = number.wrapping_add(1);

@@ -4,6 +4,7 @@ ghost use Rattle.stream.specs.Pipelines.{Polled};
 ghost use Rattle.combine.specs.ZipPipeline.{ZipTook, zip_answers, zip_pipeline};
 
 use stream::poll::Poll;
+use stream::ready;
 use stream::stream::Stream;
 
 // Pairs each item of the first stream with the next of the second.
@@ -55,21 +56,13 @@ where
         ensures parts { ZipTook A.Stream B.Stream self.old (waits_in result) self.new }
     {
         if self.item_slot.is_none() {
-            match self.first.poll_next() {
-                Poll::Pending => return Poll::Pending,
-                Poll::Ready(None) => return Poll::Ready(None),
-                Poll::Ready(Some(item)) => self.item_slot = Some(item),
+            match ready!(self.first.poll_next()) {
+                None => return Poll::Ready(None),
+                item => self.item_slot = item,
             }
         }
-        match self.second.poll_next() {
-            Poll::Pending => Poll::Pending,
-            Poll::Ready(second) => {
-                let first = self.item_slot.take().unwrap();
-                match second {
-                    Some(item) => Poll::Ready(Some((first, item))),
-                    None => Poll::Ready(None),
-                }
-            }
-        }
+        let second = ready!(self.second.poll_next());
+        let first = self.item_slot.take().unwrap();
+        Poll::Ready(second.map(|item| (first, item)))
     }
 }

@@ -15,7 +15,7 @@ pub fn poll_both<P: Stream, Q: Stream, V: Callback<Input = Shown<P::Item, Q::Ite
     ensures { PolledLawfully P.Stream Q.Stream V.Callback p.old q.old viewer.old start polls p.new q.new viewer.new result }
 {
     let mut turn = start;
-    for _i in 0..polls {
+    for _ in 0..polls {
         turn = match turn {
             Turn::First => viewer.call(Shown::First(p.poll_next())),
             Turn::Second => viewer.call(Shown::Second(q.poll_next())),

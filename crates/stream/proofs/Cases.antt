@@ -1,5 +1,5 @@
 -- Ruling cases out, and reading an answer off a poll.
-use Rattle.std.proofs.Common.{◌≡◌, ℕ, false, List, [], ◌∷◌, is_some, Some, None, Option, refl, arith}
+use Rattle.std.proofs.Common.{◌≡◌, ℕ, false, List, [], ◌∷◌, is_some, Some, None, Option, refl, subst, arith}
 use Rattle.stream.specs.declared.poll.Poll.TheVariants.{Ready, Pending}
 use Rattle.stream.specs.declared.stream.Stream.{Ghosts as Streams}
 use Rattle.stream.specs.Answers.{Answer, first}
@@ -11,6 +11,10 @@ never z = absurd (omega arith)
 pub none_of : {A : Type 0} (o : Option A) → is_some o ≡ false → o ≡ None
 none_of None e = refl
 none_of (Some x) e = never (cc)
+
+-- a poll that answered r, which is r'
+pub answered_as : {S A : Type 0} {answers : S → List (Answer A)} {pipeline : Pipeline answers} {s t : S} {r : Answer A} (r' : Answer A) → r ≡ r' → Polled answers pipeline s r t → Polled answers pipeline s r' t
+answered_as {answers = answers} {pipeline = pipeline} {s = s} {t = t} r' e p = subst (λ a. Polled answers pipeline s a t) e p
 
 -- a poll that answered o, where the equation at hand has another term for o
 pub read_as : {S A : Type 0} (below : Streams S A) (s : S) (o o' : Option A) (t : S) → Polled below.answers below.pipeline s (Ready o) t → Ready o' ≡ first (below.answers s) → Polled below.answers below.pipeline s (Ready o') t
