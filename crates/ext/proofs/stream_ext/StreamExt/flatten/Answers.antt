@@ -1,14 +1,9 @@
-use Rattle.std.proofs.Common.{None, refl, ap₂}
+use Rattle.std.proofs.Common.{None, refl}
 use Rattle.stream.specs.Answers.{Agree}
-use Rattle.nest.specs.Nested.{nested_answers}
 use Rattle.ext.proofs.Building.{empty_matches, stream_kept}
 use Rattle.ext.proofs.stream_ext.StreamExt.flatten.Goals as goal
 
-pub returns : goal.returns
-returns g c =
+pub returns-clause-alike : goal.returns-clause-alike
+returns-clause-alike g c =
     let e = c.new.ensures in
-    record {
-      parts = e;
-      list = ap₂ (nested_answers g.Self.Stream g.Self.Item.Stream) e.0 e.1;
-      alike = λ lists vs inner a. (lists, vs, None, inner, stream_kept g.Self.Stream e.0 vs a, empty_matches (λ u ys. Agree g.Self.Item.Stream.pipeline.view.same (g.Self.Item.Stream.answers u) ys) e.1, refl);
-    }
+    λ lists vs inner a. (lists, vs, None, inner, stream_kept g.Self.Stream e.0 vs a, empty_matches (λ u ys. Agree g.Self.Item.Stream.pipeline.view.same (g.Self.Item.Stream.answers u) ys) e.1, refl)

@@ -1,15 +1,7 @@
-use Rattle.std.proofs.Common.{refl, ap₂}
 use Rattle.stream.specs.Answers.{Matching}
 use Rattle.stream.specs.Views.{insides}
-use Rattle.transform.specs.MapWhileRule.{mapped_while}
-use Rattle.ext.proofs.Building.{callback_kept, stream_kept}
+use Rattle.ext.proofs.Building.{by_callback}
 use Rattle.ext.proofs.stream_ext.StreamExt.scan.Goals as goal
 
-pub returns : goal.returns
-returns g c =
-    let e = c.new.ensures in
-    record {
-      parts = e;
-      list = ap₂ (λ s f. mapped_while g.F.Callback.output g.F.Callback.next f (g.Self.Stream.answers s)) e.0 e.1;
-      alike = λ ys h a k. (ys, h, stream_kept g.Self.Stream e.0 ys a, callback_kept g.Self.Stream g.F.Callback (Matching (insides g.F.Callback.outputs).same) e.1 h k, refl);
-    }
+pub returns-clause-alike : goal.returns-clause-alike
+returns-clause-alike g c = by_callback g.Self.Stream g.F.Callback (Matching (insides g.F.Callback.outputs).same) _ c.new.ensures.0 c.new.ensures.1

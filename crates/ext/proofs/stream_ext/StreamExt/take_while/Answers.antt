@@ -1,13 +1,6 @@
-use Rattle.std.proofs.Common.{◌≡◌, refl, ap₂}
-use Rattle.transform.specs.TakeWhileRule.{taken_while}
-use Rattle.ext.proofs.Building.{callback_kept, stream_kept}
+use Rattle.std.proofs.Common.{◌≡◌}
+use Rattle.ext.proofs.Building.{by_callback}
 use Rattle.ext.proofs.stream_ext.StreamExt.take_while.Goals as goal
 
-pub returns : goal.returns
-returns g c =
-    let e = c.new.ensures in
-    record {
-      parts = e;
-      list = ap₂ (λ s f. taken_while g.P.Callback.output g.P.Callback.next f (g.Self.Stream.answers s)) e.0 e.1;
-      alike = λ ys h a k. (ys, h, stream_kept g.Self.Stream e.0 ys a, callback_kept g.Self.Stream g.P.Callback (λ b d. b ≡ d) e.1 h k, refl);
-    }
+pub returns-clause-alike : goal.returns-clause-alike
+returns-clause-alike g c = by_callback g.Self.Stream g.P.Callback (λ b d. b ≡ d) _ c.new.ensures.0 c.new.ensures.1
