@@ -1,11 +1,11 @@
 -- One poll of Zip: first an item is kept, and then the second stream is polled.
-use Rattle.std.proofs.Common.{◌≡◌, ℕ, true, List, [], ◌∷◌, is_some, Some, None, Option, sym, refl, ap, ◌∙◌, subst, ap₂}
+use Rattle.std.proofs.Common.{◌≡◌, ℕ, true, false, List, [], ◌∷◌, is_some, Some, None, Option, sym, refl, ap, ◌∙◌, subst, ap₂}
 use Rattle.std.specs.Option.{IsSomeAnd, MatchOption}
 use Rattle.stream.specs.declared.poll.Poll.TheVariants.{Ready, Pending}
 use Rattle.stream.specs.declared.stream.Stream.{Ghosts as Streams}
 use Rattle.stream.specs.Answers.{Answer, NoItem, first, rest, waits_in}
 use Rattle.stream.specs.Pipelines.{Polled}
-use Rattle.stream.proofs.Cases.{answered_as, at_item, never}
+use Rattle.stream.proofs.Cases.{answered_as, at_item, never, none_of}
 use Rattle.stream.proofs.Passing.{at_no_item, passed, passed_waits}
 use Rattle.combine.specs.declared.zip.Zip.{Zip}
 use Rattle.combine.specs.ZipRule.{kept, kept_after, zipped, zipped_from}
@@ -47,8 +47,9 @@ kept_rest x xs (Ready (Some y) ∷ ys) = refl
 
 module _ {S T A B : Type 0} (one : Streams S A) (two : Streams T B) where
   -- where only the first stream was polled
-  pub first_polled : (z : Zip S T A) (s : S) (r : Answer A) (n : NoItem r) → z.item_slot ≡ None → Polled one.answers one.pipeline z.first r s → Polled (zip_answers one two) (zip_pipeline one two) z (passed r n) (record { item_slot = z.item_slot; first = s; second = z.second })
-  first_polled z s r n e p =
+  pub first_polled : (z : Zip S T A) (s : S) (r : Answer A) (n : NoItem r) → is_some z.item_slot ≡ false → Polled one.answers one.pipeline z.first r s → Polled (zip_answers one two) (zip_pipeline one two) z (passed r n) (record { item_slot = z.item_slot; first = s; second = z.second })
+  first_polled z s r n empty p =
+      let e = none_of z.item_slot empty in
       let xs = one.answers z.first in
       let ys = two.answers z.second in
       let h = at_no_item (λ l. zipped l ys) (refl, refl) (λ l. (refl, refl)) (λ l. (refl, refl)) r n xs p.answer in
@@ -66,12 +67,12 @@ module _ {S T A B : Type 0} (one : Streams S A) (two : Streams T B) where
     pub answers : zip_answers one two z ≡ kept item (zipped (one.answers n.first)) (two.answers n.second)
     pub took : (w : ℕ) (r : Answer B) (z' : Zip S T A) → z'.first ≡ n.first → Polled two.answers two.pipeline n.second r z'.second → z'.item_slot ≡ kept_after item r → w ≡ waits_in r → ZipTook one two z w z'
 
-  pub brought : (z n : Zip S T A) → z.item_slot ≡ None → Polled one.answers one.pipeline z.first (Ready n.item_slot) n.first → n.second ≡ z.second → (n.item_slot ≡ None → ⊥) → Primed z n
-  brought z n e p s some = go n.item_slot refl p some
+  pub brought : (z n : Zip S T A) → is_some z.item_slot ≡ false → Polled one.answers one.pipeline z.first (Ready n.item_slot) n.first → n.second ≡ z.second → (n.item_slot ≡ None → ⊥) → Primed z n
+  brought z n empty p s some = go n.item_slot refl p some
     where
       go : (o : Option A) → n.item_slot ≡ o → Polled one.answers one.pipeline z.first (Ready o) n.first → (o ≡ None → ⊥) → Primed z n
       go None e' p some = absurd (some refl)
-      go (Some x) e' p some = record {
+      go (Some x) e' p some = let e = none_of z.item_slot empty in record {
         item = x;
         slot = e';
         answers = ap (λ o. zipped_from o (one.answers z.first) (two.answers z.second)) e ∙ first_kept x (one.answers z.first) (two.answers z.second) p.answer ∙ ap₂ (λ xs t. kept x (zipped xs) (two.answers t)) (sym p.after) (sym s);

@@ -1,6 +1,6 @@
 use Rattle.std.proofs.Common.{◌≡◌, None, sym, refl, subst, rules}
 use Rattle.stream.specs.declared.poll.Poll.TheVariants.{Ready, Pending}
-use Rattle.stream.proofs.Cases.{answered_as, none_of}
+use Rattle.stream.proofs.Cases.{answered_as}
 use Rattle.combine.proofs.Zipping.{Primed, brought, first_polled, kept_already, pair_made, second_polled}
 use Rattle.combine.proofs.zip.ZipStream.poll_next.Given as given
 use Rattle.combine.proofs.zip.ZipStream.poll_next.Goals as goal
@@ -12,21 +12,19 @@ primed g c =
     let z = c.args.self.now in
     let at = Primed g.A.Stream g.B.Stream z in
     elim c.if-is_none.branch [
-      | then-is_none+in-Ready-ready+in_default+in-Some-1 w ↦ subst at (sym w.self-is) (brought g.A.Stream g.B.Stream z _ (none_of z.item_slot w.if-is_none.ensures) (answered_as _ (search rules) w.poll_next.ensures.polled) refl w.in_default.not-None)
-      | then-is_none+in-Ready-ready+in_default+in-None-1 w ↦ subst at (sym w.self-is) (brought g.A.Stream g.B.Stream z _ (none_of z.item_slot w.if-is_none.ensures) (answered_as _ (search rules) w.poll_next.ensures.polled) refl w.in_default.not-None)
+      | then-is_none+in-Ready-ready+in_default+in-Some-1 w ↦ subst at (sym w.self-is) (brought g.A.Stream g.B.Stream z _ w.if-is_none.ensures (answered_as _ (search rules) w.poll_next.ensures.polled) refl w.in_default.not-None)
+      | then-is_none+in-Ready-ready+in_default+in-None-1 w ↦ subst at (sym w.self-is) (brought g.A.Stream g.B.Stream z _ w.if-is_none.ensures (answered_as _ (search rules) w.poll_next.ensures.polled) refl w.in_default.not-None)
       | else-is_none w ↦ subst at (sym w.self-is) (kept_already g.A.Stream g.B.Stream z w.if-is_none.ensures)
     ]
 
 pub returns-then-is_none : goal.returns-then-is_none
 returns-then-is_none g c =
-    let e = none_of c.args.self.now.item_slot c.if-is_none.ensures in
-    let p = first_polled g.A.Stream g.B.Stream c.args.self.now c.poll_next.new.self Pending tt e (answered_as Pending (search rules) c.poll_next.ensures.polled) in
+    let p = first_polled g.A.Stream g.B.Stream c.args.self.now c.poll_next.new.self Pending tt c.if-is_none.ensures (answered_as Pending (search rules) c.poll_next.ensures.polled) in
     record { polled = p; parts = p.took }
 
 pub returns-in-None : goal.returns-in-None
 returns-in-None g c =
-    let e = none_of c.args.self.now.item_slot c.if-is_none.ensures in
-    let p = first_polled g.A.Stream g.B.Stream c.args.self.now c.poll_next.new.self (Ready None) tt e (answered_as (Ready None) (search rules) c.poll_next.ensures.polled) in
+    let p = first_polled g.A.Stream g.B.Stream c.args.self.now c.poll_next.new.self (Ready None) tt c.if-is_none.ensures (answered_as (Ready None) (search rules) c.poll_next.ensures.polled) in
     record { polled = p; parts = p.took }
 
 pub returns : goal.returns
