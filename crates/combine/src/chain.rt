@@ -48,7 +48,7 @@ impl<S: Stream, U: Stream<Item = S::Item>> Stream for Chain<S, U> {
     {
         match ready!(self.first.poll_next()) {
             None => self.second.poll_next(),
-            // Not bound whole, as `next => Poll::Ready(next)`: the arm above would then let go a value that need not be Drop.
+            // Taken apart and built again: bound whole, it would be let go in the arm above, and an item need not be Drop.
             Some(item) => Poll::Ready(Some(item)),
         }
     }

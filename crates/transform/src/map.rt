@@ -44,7 +44,7 @@ impl<S: Stream, F: Callback<Input = S::Item>> Stream for Map<S, F> {
         ensures stream { S.Stream.answers self.new.stream ≡ rest (S.Stream.answers self.old.stream) }
         ensures callback { self.new.f ≡ called F.Callback.next self.old.f (first (S.Stream.answers self.old.stream)) }
     {
-        // Not `map`: of a closure that it does not call, its contract does not say that what the closure borrowed is as it was.
+        // A match, since Option's `map` does not promise that a closure that it does not call leaves the callback as it was.
         match ready!(self.stream.poll_next()) {
             None => Poll::Ready(None),
             Some(item) => Poll::Ready(Some(self.f.call(item))),

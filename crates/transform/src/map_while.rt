@@ -44,7 +44,7 @@ impl<S: Stream, P: Callback<Input = S::Item, Output = Option<T>>, T> Stream for 
         ensures stream { S.Stream.answers self.new.stream ≡ rest (S.Stream.answers self.old.stream) }
         ensures callback { self.new.predicate ≡ called P.Callback.next self.old.predicate (first (S.Stream.answers self.old.stream)) }
     {
-        // Not `and_then`: of a closure that it does not call, its contract does not say that what the closure borrowed is as it was.
+        // A match, since Option's `and_then` does not promise that a closure that it does not call leaves the callback as it was.
         match ready!(self.stream.poll_next()) {
             None => Poll::Ready(None),
             Some(item) => Poll::Ready(self.predicate.call(item)),
