@@ -1,5 +1,7 @@
 -- The delay law, of every run.
 use Rattle.std.proofs.Common.{◌≡◌, ℕ, zero, suc, ◌+◌, List, [], ◌∷◌, ◌++◌, length, Some, None, Option, sym, refl, ap, ◌∙◌, subst, ap₂, subst₂, add-one, length-append}
+use Rattle.std.specs.List.{fold}
+use Rattle.std.proofs.lemmas.List.Sums.{fold-append}
 use Rattle.stream.specs.declared.poll.Poll.TheVariants.{Ready, Pending}
 use Rattle.stream.specs.declared.stream.Stream.{Ghosts as Streams}
 use Rattle.stream.specs.declared.callback.Callback.{Ghosts as Callbacks}
@@ -9,7 +11,7 @@ use Rattle.law.specs.declared.shown.Turn.{Turn}
 use Rattle.law.specs.declared.shown.Turn.TheVariants as turns
 use Rattle.law.specs.declared.shown.Shown.{Shown}
 use Rattle.law.specs.declared.shown.Shown.TheVariants as shown
-use Rattle.law.specs.Laws.{DelayLaw, PollsOfBoth, SameSoFar, all_seen, fed, firsts, of_first, of_second}
+use Rattle.law.specs.Laws.{DelayLaw, PollsOfBoth, SameSoFar, all_seen, firsts, of_first, of_second}
 use Rattle.law.specs.Laws.PollsOfBoth.{first_polled, none_yet, second_polled}
 
 -- what is left of a list after n polls
@@ -117,14 +119,10 @@ module _ {P Q V A B : Type 0} (one : Streams P A) (two : Streams Q B) (viewer : 
             subst₂ (λ k l. SameSoFar (λ a b. same a (see b)) (settled k) (settled l)) (sym g.0.0) (sym g.1.0) seen;
       }
 
-  fed_more : (u : V) (l : List (Shown A B)) (a : Shown A B) → fed viewer.next u (l ++ (a ∷ [])) ≡ viewer.next (fed viewer.next u l) a
-  fed_more u [] a = refl
-  fed_more u (x ∷ l) a = fed_more (viewer.next u x) l a
-
-  pub viewed : {so_far : List (Shown A B)} {s : P} {t : Q} {u : V} {turn : Turn} → PollsOfBoth one two viewer p q v start so_far s t u turn → u ≡ fed viewer.next v so_far
+  pub viewed : {so_far : List (Shown A B)} {s : P} {t : Q} {u : V} {turn : Turn} → PollsOfBoth one two viewer p q v start so_far s t u turn → u ≡ fold viewer.next v so_far
   viewed none_yet = refl
-  viewed (first_polled {so_far = l} {r = r} run h) = ap (λ k. viewer.next k (shown.First r)) (viewed run) ∙ sym (fed_more v l (shown.First r))
-  viewed (second_polled {so_far = l} {r = r} run h) = ap (λ k. viewer.next k (shown.Second r)) (viewed run) ∙ sym (fed_more v l (shown.Second r))
+  viewed (first_polled {so_far = l} {r = r} run h) = ap (λ k. viewer.next k (shown.First r)) (viewed run) ∙ sym (fold-append viewer.next v l (shown.First r ∷ []))
+  viewed (second_polled {so_far = l} {r = r} run h) = ap (λ k. viewer.next k (shown.Second r)) (viewed run) ∙ sym (fold-append viewer.next v l (shown.Second r ∷ []))
 
   -- a run of n polls so far
   abbrev pub RunSoFar : ℕ → P → Q → V → Turn → Type 0

@@ -1,5 +1,6 @@
 -- The delay law of pipelines, over runs in which two of them are polled in any order.
 use Rattle.std.specs.Prelude.{◌≡◌, ℕ, zero, suc, List, [], ◌∷◌, ◌++◌, length, Some, None, Option}
+use Rattle.std.specs.List.{fold}
 use Rattle.stream.specs.declared.poll.Poll.TheVariants.{Ready, Pending}
 use Rattle.stream.specs.declared.stream.Stream.{Ghosts as Streams}
 use Rattle.stream.specs.declared.callback.Callback.{Ghosts as Callbacks}
@@ -40,11 +41,6 @@ of_second [] = []
 of_second (shown.First r ∷ xs) = of_second xs
 of_second (shown.Second r ∷ xs) = r ∷ of_second xs
 
--- A callback that has been called with each of some inputs, in order.
-abbrev pub fed : {V A : Type 0} → (V → A → V) → V → List A → V
-fed next v [] = v
-fed next v (x ∷ xs) = fed next (next v x) xs
-
 module _ {P Q V A B : Type 0} (one : Streams P A) (two : Streams Q B) (viewer : Callbacks V (Shown A B) Turn) where
   -- Some polls of two pipelines, one after another, from the states p and q. Each answer is shown to a viewer, which says whose turn is next. Each poll is `Polled`: its answer is the first of its pipeline's list, and it took one wait from the sources and futures below if the answer is a wait, and else none.
   pub data PollsOfBoth (p : P) (q : Q) (v : V) (start : Turn) : List (Shown A B) → P → Q → V → Turn → Type 0 where
@@ -65,6 +61,6 @@ module _ {P Q V A B : Type 0} (one : Streams P A) (two : Streams Q B) (viewer : 
     pub so_far : List (Shown A B)
     pub count : length so_far ≡ polls
     pub run : PollsOfBoth p q v start so_far p' q' v' turn
-    -- The viewer was shown those answers, each once and in order.
-    pub viewed : v' ≡ fed viewer.next v so_far
+    -- The viewer was shown those answers: it was called with each of them, once and in order.
+    pub viewed : v' ≡ fold viewer.next v so_far
     pub law : DelayLaw p q so_far
