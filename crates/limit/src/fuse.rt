@@ -4,12 +4,14 @@ ghost use Rattle.stream.specs.Pipelines.{Polled};
 ghost use Rattle.limit.specs.FusePipeline.{FuseTook, fuse_answers, fuse_pipeline};
 
 use stream::poll::Poll;
+use stream::ready;
 use stream::stream::Stream;
 
 // Ends at the first None, and does not poll after it.
 #[derive(Drop)]
 pub struct Fuse<S> {
     stream: S,
+    // A flag and no Option round the stream, since the stream is handed back also once it has ended.
     done: bool,
 }
 
@@ -52,13 +54,10 @@ impl<S: Stream> Stream for Fuse<S> {
         if self.done {
             return Poll::Ready(None);
         }
-        match self.stream.poll_next() {
-            Poll::Pending => Poll::Pending,
-            Poll::Ready(None) => {
-                self.done = true;
-                Poll::Ready(None)
-            }
-            Poll::Ready(Some(item)) => Poll::Ready(Some(item)),
+        let next = ready!(self.stream.poll_next());
+        if next.is_none() {
+            self.done = true;
         }
+        Poll::Ready(next)
     }
 }

@@ -1,7 +1,8 @@
 ghost use Rattle.std.specs.Prelude.{◌≡◌};
 ghost use Rattle.limit.specs.Refusals.{number, stream_of};
 
-// Why a StepBy is not made, with the stream handed back as it was.
+// Why a StepBy is not made, with the stream handed back as it was. An enum of one case, since refusals are numbered in one list, and
+// more can join.
 #[derive(Drop)]
 pub enum StepRefusal<S> {
     ZeroStep(S),

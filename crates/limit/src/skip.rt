@@ -5,6 +5,7 @@ ghost use Rattle.limit.specs.SkipPipeline.{skip_answers, skip_pipeline};
 ghost use Rattle.limit.specs.SkipRule.{fewer, skips};
 
 use stream::poll::Poll;
+use stream::ready;
 use stream::stream::Stream;
 
 // Drops the first n items.
@@ -46,15 +47,12 @@ where
         ensures parts { (self.new.n, S.Stream.answers self.new.stream) ≡ read_past skips fewer self.old.n (S.Stream.answers self.old.stream) }
     {
         loop {
-            match self.stream.poll_next() {
-                Poll::Pending => return Poll::Pending,
-                Poll::Ready(None) => return Poll::Ready(None),
-                Poll::Ready(Some(item)) => {
-                    if self.n == 0 {
-                        return Poll::Ready(Some(item));
-                    }
-                    self.n -= 1;
-                }
+            match ready!(self.stream.poll_next()) {
+                None => return Poll::Ready(None),
+                Some(item) => match self.n {
+                    0 => return Poll::Ready(Some(item)),
+                    _ => self.n -= 1,
+                },
             }
         }
     }

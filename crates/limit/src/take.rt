@@ -4,6 +4,7 @@ ghost use Rattle.stream.specs.Pipelines.{Polled};
 ghost use Rattle.limit.specs.TakePipeline.{TakeTook, take_answers, take_pipeline};
 
 use stream::poll::Poll;
+use stream::ready;
 use stream::stream::Stream;
 
 // Ends after the nth item, or at the first None.
@@ -44,16 +45,11 @@ impl<S: Stream> Stream for Take<S> {
         if self.n == 0 {
             return Poll::Ready(None);
         }
-        match self.stream.poll_next() {
-            Poll::Pending => Poll::Pending,
-            Poll::Ready(None) => {
-                self.n = 0;
-                Poll::Ready(None)
-            }
-            Poll::Ready(Some(item)) => {
-                self.n -= 1;
-                Poll::Ready(Some(item))
-            }
+        let next = ready!(self.stream.poll_next());
+        match next {
+            Some(_) => self.n -= 1,
+            None => self.n = 0,
         }
+        Poll::Ready(next)
     }
 }

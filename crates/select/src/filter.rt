@@ -6,6 +6,7 @@ ghost use Rattle.select.specs.FilterRule.{filters};
 
 use stream::callback::Callback;
 use stream::poll::Poll;
+use stream::ready;
 use stream::stream::Stream;
 
 // Drops the items on which the callback says no.
@@ -46,14 +47,10 @@ where
         ensures parts { (self.new.predicate, S.Stream.answers self.new.stream) ≡ read_past (filters P.Callback.output) P.Callback.next self.old.predicate (S.Stream.answers self.old.stream) }
     {
         loop {
-            match self.stream.poll_next() {
-                Poll::Pending => return Poll::Pending,
-                Poll::Ready(None) => return Poll::Ready(None),
-                Poll::Ready(Some(item)) => {
-                    if self.predicate.call(item) {
-                        return Poll::Ready(Some(item));
-                    }
-                }
+            match ready!(self.stream.poll_next()) {
+                None => return Poll::Ready(None),
+                Some(item) if self.predicate.call(item) => return Poll::Ready(Some(item)),
+                Some(_) => {}
             }
         }
     }

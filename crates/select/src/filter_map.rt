@@ -6,6 +6,7 @@ ghost use Rattle.select.specs.FilterMapRule.{filter_maps};
 
 use stream::callback::Callback;
 use stream::poll::Poll;
+use stream::ready;
 use stream::stream::Stream;
 
 // Turns each item into the callback's output, and drops those for which it gives nothing.
@@ -43,10 +44,9 @@ impl<S: Stream, F: Callback<Input = S::Item, Output = Option<T>>, T> Stream for 
         ensures parts { (self.new.f, S.Stream.answers self.new.stream) ≡ read_past (filter_maps F.Callback.output) F.Callback.next self.old.f (S.Stream.answers self.old.stream) }
     {
         loop {
-            match self.stream.poll_next() {
-                Poll::Pending => return Poll::Pending,
-                Poll::Ready(None) => return Poll::Ready(None),
-                Poll::Ready(Some(item)) => {
+            match ready!(self.stream.poll_next()) {
+                None => return Poll::Ready(None),
+                Some(item) => {
                     if let Some(output) = self.f.call(item) {
                         return Poll::Ready(Some(output));
                     }

@@ -6,6 +6,7 @@ ghost use Rattle.select.specs.SkipWhileRule.{let_go, skips_while};
 
 use stream::callback::Callback;
 use stream::poll::Poll;
+use stream::ready;
 use stream::stream::Stream;
 
 // Drops the items up to the first on which the callback says no.
@@ -50,10 +51,9 @@ where
         ensures parts { (self.new.predicate, S.Stream.answers self.new.stream) ≡ read_past (skips_while P.Callback.output) (let_go P.Callback.output P.Callback.next) self.old.predicate (S.Stream.answers self.old.stream) }
     {
         loop {
-            match self.stream.poll_next() {
-                Poll::Pending => return Poll::Pending,
-                Poll::Ready(None) => return Poll::Ready(None),
-                Poll::Ready(Some(item)) => match &mut self.predicate {
+            match ready!(self.stream.poll_next()) {
+                None => return Poll::Ready(None),
+                Some(item) => match &mut self.predicate {
                     Some(predicate) => {
                         if !predicate.call(item) {
                             self.predicate = None;

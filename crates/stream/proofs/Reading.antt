@@ -1,87 +1,82 @@
 -- One poll of an adapter that goes item by item: it reads on past the items that are dropped.
-use Rattle.std.proofs.Common.{◌≡◌, ℕ, ◌+◌, List, Some, None, Option, sym, refl, ap, ◌∙◌, subst, zero-add}
+use Rattle.std.proofs.Common.{◌≡◌, ℕ, ◌+◌, List, Some, None, sym, refl, ap, ◌∙◌, subst, zero-add, ap₂}
 use Rattle.stream.specs.declared.poll.Poll.TheVariants.{Ready, Pending}
 use Rattle.stream.specs.declared.stream.Stream.{Ghosts as Streams}
-use Rattle.stream.specs.Answers.{Answer, first, rest, waits_in}
+use Rattle.stream.specs.Answers.{Answer, Agree, first, rest, waits_in}
 use Rattle.stream.specs.Itemwise.{Made, before, itemwise, on_if_dropped, read_past}
 use Rattle.stream.specs.Itemwise.Made.{item, dropped}
 use Rattle.stream.specs.Pipelines.{Polled}
 use Rattle.stream.specs.Runs.{Run, TookByPolls}
 use Rattle.stream.specs.Runs.Run.{start, poll}
-use Rattle.stream.proofs.Cases.{at_wait, at_none, at_item, read_as}
+use Rattle.stream.specs.Views.{View}
+use Rattle.stream.proofs.Cases.{at_wait, at_none, at_item}
 
-module _ {S F A B : Type 0} (below : Streams S A) (makes : F → A → Made B) (next : F → A → F) where
-  abbrev Whole : S → F → List (Answer B)
-  Whole s f = itemwise makes next f (below.answers s)
+-- what is made of the item x at the head of xs
+made_of : {F A B : Type 0} (makes : F → A → Made B) (next : F → A → F) (f : F) (x : A) (m : Made B) (xs : List (Answer A)) → Ready (Some x) ≡ first xs → makes f x ≡ m → (itemwise makes next f xs ≡ before m (itemwise makes next (next f x) (rest xs))) × (read_past makes next f xs ≡ on_if_dropped m (next f x, rest xs) (read_past makes next (next f x) (rest xs)))
+made_of makes next f x m xs e i =
+    at_item (λ l. (itemwise makes next f l ≡ before m (itemwise makes next (next f x) (rest l))) × (read_past makes next f l ≡ on_if_dropped m (next f x, rest l) (read_past makes next (next f x) (rest l)))) x xs e
+    (λ ys y q. (
+      ap (λ z. before (makes f z) (itemwise makes next (next f z) ys)) (sym q) ∙ ap (λ n. before n (itemwise makes next (next f x) ys)) i,
+      ap (λ z. on_if_dropped (makes f z) (next f z, ys) (read_past makes next (next f z) ys)) (sym q) ∙ ap (λ n. on_if_dropped n (next f x, ys) (read_past makes next (next f x) ys)) i,
+    ))
 
-  abbrev Left : S → F → F × List (Answer A)
-  Left s f = read_past makes next f (below.answers s)
-
-  -- A poll that began at s and f has dropped some items, and come to t and g.
-  pub record Reading (s : S) (f : F) (t : S) (g : F) : Type 0 where
+-- An adapter M that holds a stream and a state:
+module _ {M S F A B : Type 0} (below : Streams S A) (makes : F → A → Made B) (next : F → A → F) (stream : M → S) (state : M → F) where
+  -- A poll of it that began at m has dropped some items, and come to t.
+  pub record Reading (m t : M) : Type 0 where
     pub polls : ℕ
-    pub run : Run below.answers below.pipeline s polls 0 t
-    pub whole : Whole t g ≡ Whole s f
-    pub left : Left t g ≡ Left s f
+    pub run : Run below.answers below.pipeline (stream m) polls 0 (stream t)
+    pub whole : itemwise makes next (state t) (below.answers (stream t)) ≡ itemwise makes next (state m) (below.answers (stream m))
+    pub left : read_past makes next (state t) (below.answers (stream t)) ≡ read_past makes next (state m) (below.answers (stream m))
 
-  -- A poll that began at s and f answered r, and left t and g.
-  pub record Read (s : S) (f : F) (r : Answer B) (t : S) (g : F) : Type 0 where
-    pub answer : r ≡ first (Whole s f)
-    pub after : Whole t g ≡ rest (Whole s f)
-    pub took : TookByPolls below.answers below.pipeline s (waits_in r) t
-    pub left : (g, below.answers t) ≡ Left s f
+  -- a poll of it, from m to n, that answered r and took what its polls of its stream took
+  abbrev PollOf : (view : View B) (alike : M → List (Answer view.Seen) → Type 0) (agree : (m : M) (ys : List (Answer view.Seen)) → alike m ys → Agree view.same (itemwise makes next (state m) (below.answers (stream m))) ys) → M → Answer B → M → Type 0
+  PollOf view alike agree =
+      Polled (λ m. itemwise makes next (state m) (below.answers (stream m))) (record { view = view; took = λ m w n. TookByPolls below.answers below.pipeline (stream m) w (stream n); alike = alike; agree = agree })
 
-  pub begun : (s : S) (f : F) → Reading s f s f
-  begun s f = record { polls = 0; run = start; whole = refl; left = refl }
+-- At first none is dropped.
+pub begun : {M S F A B : Type 0} {below : Streams S A} {makes : F → A → Made B} {next : F → A → F} {stream : M → S} {state : M → F} {m : M} → Reading below makes next stream state m m
+begun = record { polls = 0; run = start; whole = refl; left = refl }
 
-  -- what is made of the item x at the head of xs
-  made_of : (f : F) (x : A) (m : Made B) (xs : List (Answer A)) → Ready (Some x) ≡ first xs → makes f x ≡ m → (itemwise makes next f xs ≡ before m (itemwise makes next (next f x) (rest xs))) × (read_past makes next f xs ≡ on_if_dropped m (next f x, rest xs) (read_past makes next (next f x) (rest xs)))
-  made_of f x m xs e i =
-      at_item (λ l. (itemwise makes next f l ≡ before m (itemwise makes next (next f x) (rest l))) × (read_past makes next f l ≡ on_if_dropped m (next f x, rest l) (read_past makes next (next f x) (rest l)))) x xs e
-      (λ ys y q. (
-        ap (λ z. before (makes f z) (itemwise makes next (next f z) ys)) (sym q) ∙ ap (λ n. before n (itemwise makes next (next f x) ys)) i,
-        ap (λ z. on_if_dropped (makes f z) (next f z, ys) (read_past makes next (next f z) ys)) (sym q) ∙ ap (λ n. on_if_dropped n (next f x, ys) (read_past makes next (next f x) ys)) i,
-      ))
+-- Where it has come to t, and its next poll of the stream leaves n:
+module _ {M S F A B : Type 0} {below : Streams S A} {makes : F → A → Made B} {next : F → A → F} {stream : M → S} {state : M → F} {m t n : M} (h : Reading below makes next stream state m t) where
+  -- the stream answers an item x that is dropped;
+  pub drops : {r : Answer A} (x : A) → Polled below.answers below.pipeline (stream t) r (stream n) → r ≡ Ready (Some x) → makes (state t) x ≡ dropped → state n ≡ next (state t) x → Reading below makes next stream state m n
+  drops x p e i k =
+      let q = subst (λ z. Polled below.answers below.pipeline (stream t) z (stream n)) e p in
+      let c = made_of makes next (state t) x dropped (below.answers (stream t)) q.answer i in
+      record {
+        polls = h.polls + 1;
+        run = poll h.run q;
+        whole = ap₂ (itemwise makes next) k q.after ∙ sym c.0 ∙ h.whole;
+        left = ap₂ (read_past makes next) k q.after ∙ sym c.1 ∙ h.left;
+      }
 
--- Where a poll has come to t and g, and its next poll of the stream leaves u:
-module _ {S F A B : Type 0} {below : Streams S A} {makes : F → A → Made B} {next : F → A → F} {s t u : S} {f g : F} (h : Reading below makes next s f t g) where
-  ends_by : (r : Answer A) (r' : Answer B) (g' : F) → Polled below.answers below.pipeline t r u → waits_in r' ≡ waits_in r → r' ≡ first (itemwise makes next g (below.answers t)) → itemwise makes next g' (rest (below.answers t)) ≡ rest (itemwise makes next g (below.answers t)) → (g', rest (below.answers t)) ≡ read_past makes next g (below.answers t) → Read below makes next s f r' u g'
-  ends_by r r' g' p w a b l = record {
-    answer = a ∙ ap first h.whole;
-    after = ap (itemwise makes next g') p.after ∙ b ∙ ap rest h.whole;
-    took = (h.polls + 1, subst (λ n. Run below.answers below.pipeline s (h.polls + 1) n u) (zero-add (waits_in r) ∙ sym w) (poll h.run p));
-    left = ap (λ ys. (g', ys)) p.after ∙ l ∙ h.left;
-  }
+  module _ {view : View B} {alike : M → List (Answer view.Seen) → Type 0} {agree : (m : M) (ys : List (Answer view.Seen)) → alike m ys → Agree view.same (itemwise makes next (state m) (below.answers (stream m))) ys} where
+    ends_by : (r : Answer A) (r' : Answer B) (f : F) → Polled below.answers below.pipeline (stream t) r (stream n) → waits_in r' ≡ waits_in r → state n ≡ f → r' ≡ first (itemwise makes next (state t) (below.answers (stream t))) → itemwise makes next f (rest (below.answers (stream t))) ≡ rest (itemwise makes next (state t) (below.answers (stream t))) → PollOf below makes next stream state view alike agree m r' n
+    ends_by r r' f p w k a b = record {
+      answer = a ∙ ap first h.whole;
+      after = ap₂ (itemwise makes next) k p.after ∙ b ∙ ap rest h.whole;
+      took = (h.polls + 1, subst (λ i. Run below.answers below.pipeline (stream m) (h.polls + 1) i (stream n)) (zero-add (waits_in r) ∙ sym w) (poll h.run p));
+    }
 
-  -- the stream waits;
-  pub waits : Polled below.answers below.pipeline t Pending u → Read below makes next s f Pending u g
-  waits p =
-      let c = at_wait (λ l. (Pending ≡ first (itemwise makes next g l)) × (itemwise makes next g (rest l) ≡ rest (itemwise makes next g l)) × ((g, rest l) ≡ read_past makes next g l)) (below.answers t) p.answer (λ ys. (refl, refl, refl)) in
-      ends_by Pending Pending g p refl c.0 c.1 c.2
+    -- it waits;
+    pub waits : {r : Answer A} → Polled below.answers below.pipeline (stream t) r (stream n) → r ≡ Pending → state n ≡ state t → PollOf below makes next stream state view alike agree m Pending n
+    waits p e k =
+        let q = subst (λ z. Polled below.answers below.pipeline (stream t) z (stream n)) e p in
+        let c = at_wait (λ l. (Pending ≡ first (itemwise makes next (state t) l)) × (itemwise makes next (state t) (rest l) ≡ rest (itemwise makes next (state t) l))) (below.answers (stream t)) q.answer (λ ys. (refl, refl)) in
+        ends_by Pending Pending (state t) q refl k c.0 c.1
 
-  -- it answers None;
-  pub passes_none : {o : Option A} → Polled below.answers below.pipeline t (Ready o) u → Ready None ≡ first (below.answers t) → Read below makes next s f (Ready None) u g
-  passes_none {o} q e =
-      let p = read_as below t o None u q e in
-      let c = at_none (λ l. (Ready None ≡ first (itemwise makes next g l)) × (itemwise makes next g (rest l) ≡ rest (itemwise makes next g l)) × ((g, rest l) ≡ read_past makes next g l)) (below.answers t) e (refl, refl, refl) (λ ys. (refl, refl, refl)) in
-      ends_by (Ready None) (Ready None) g p refl c.0 c.1 c.2
+    -- it answers None;
+    pub passes_none : {r : Answer A} → Polled below.answers below.pipeline (stream t) r (stream n) → r ≡ Ready None → state n ≡ state t → PollOf below makes next stream state view alike agree m (Ready None) n
+    passes_none p e k =
+        let q = subst (λ z. Polled below.answers below.pipeline (stream t) z (stream n)) e p in
+        let c = at_none (λ l. (Ready None ≡ first (itemwise makes next (state t) l)) × (itemwise makes next (state t) (rest l) ≡ rest (itemwise makes next (state t) l))) (below.answers (stream t)) q.answer (refl, refl) (λ ys. (refl, refl)) in
+        ends_by (Ready None) (Ready None) (state t) q refl k c.0 c.1
 
-  module _ {o : Option A} {g' : F} (x : A) (q : Polled below.answers below.pipeline t (Ready o) u) (e : Ready (Some x) ≡ first (below.answers t)) where
-    -- it answers an item x that is dropped;
-    pub drops : makes g x ≡ dropped → g' ≡ next g x → Reading below makes next s f u g'
-    drops i n =
-        let p = read_as below t o (Some x) u q e in
-        let m = made_of below makes next g x dropped (below.answers t) e i in
-        subst (Reading below makes next s f u) (sym n) (record {
-          polls = h.polls + 1;
-          run = poll h.run p;
-          whole = ap (itemwise makes next (next g x)) p.after ∙ sym m.0 ∙ h.whole;
-          left = ap (read_past makes next (next g x)) p.after ∙ sym m.1 ∙ h.left;
-        })
-
-    -- one that becomes the item b;
-    pub makes_item : (b : B) → makes g x ≡ item b → g' ≡ next g x → Read below makes next s f (Ready (Some b)) u g'
-    makes_item b i n =
-        let p = read_as below t o (Some x) u q e in
-        let m = made_of below makes next g x (item b) (below.answers t) e i in
-        subst (Read below makes next s f (Ready (Some b)) u) (sym n) (ends_by (Ready (Some x)) (Ready (Some b)) (next g x) p refl (sym (ap first m.0)) (sym (ap rest m.0)) (sym m.1))
+    -- it answers an item x that becomes the item b.
+    pub makes_item : {r : Answer A} {b : B} (x : A) → Polled below.answers below.pipeline (stream t) r (stream n) → r ≡ Ready (Some x) → makes (state t) x ≡ item b → state n ≡ next (state t) x → PollOf below makes next stream state view alike agree m (Ready (Some b)) n
+    makes_item {b = b} x p e i k =
+        let q = subst (λ z. Polled below.answers below.pipeline (stream t) z (stream n)) e p in
+        let c = made_of makes next (state t) x (item b) (below.answers (stream t)) q.answer i in
+        ends_by (Ready (Some x)) (Ready (Some b)) (next (state t) x) q refl k (sym (ap first c.0)) (sym (ap rest c.0))

@@ -4,8 +4,7 @@ use Rattle.select.specs.FilterRule.{filters}
 use Rattle.select.proofs.filter.FilterStream.poll_next.Given as goal
 
 abbrev pub invariant-loop-item : goal.invariant-loop-item
-invariant-loop-item g l =
-    Reading g.S.Stream (filters g.P.Callback.output) g.P.Callback.next l.initial.self.stream l.initial.self.predicate l.self.stream l.self.predicate
+invariant-loop-item g l = Reading g.S.Stream (filters g.P.Callback.output) g.P.Callback.next (λ m. m.stream) (λ m. m.predicate) l.initial.self l.self
 
 abbrev pub decreases-loop-item : goal.decreases-loop-item
 decreases-loop-item g l = length (g.S.Stream.answers l.self.stream)

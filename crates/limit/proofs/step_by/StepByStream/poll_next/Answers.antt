@@ -1,0 +1,18 @@
+use Rattle.std.proofs.Common.{refl, arith}
+use Rattle.stream.proofs.Reading.{begun, drops, makes_item, passes_none, waits}
+use Rattle.limit.proofs.step_by.StepByStream.poll_next.Goals as goal
+
+pub loop-item-init : goal.loop-item-init
+loop-item-init g c = begun
+
+pub returns-in-loop-item-clause-polled : goal.returns-in-loop-item-clause-polled
+returns-in-loop-item-clause-polled g c = waits c.loop-item.invariant c.poll_next.ensures.polled (cc) refl
+
+pub returns-in-None-clause-polled : goal.returns-in-None-clause-polled
+returns-in-None-clause-polled g c = passes_none c.loop-item.invariant c.poll_next.ensures.polled (cc) refl
+
+pub returns-then-self-eq0-clause-polled : goal.returns-then-self-eq0-clause-polled
+returns-then-self-eq0-clause-polled g c = makes_item c.loop-item.invariant c.in-Some.item c.poll_next.ensures.polled (cc) (grind arith) (grind arith)
+
+pub loop-item-preserved : goal.loop-item-preserved
+loop-item-preserved g c = drops c.loop-item.invariant c.in-Some.item c.poll_next.ensures.polled (cc) (grind arith) (grind arith)
