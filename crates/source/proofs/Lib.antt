@@ -1,4 +1,0 @@
-pub mod Polls
-pub mod Rows
-pub mod Slots
-pub mod Firsts

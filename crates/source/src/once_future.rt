@@ -4,6 +4,7 @@ ghost use Rattle.source.specs.OnceFuturePipeline.{SlotPolled, once_future_answer
 
 use stream::future::Future;
 use stream::poll::Poll;
+use stream::ready;
 use stream::stream::Stream;
 
 // Gives the output of a future as its one item.
@@ -44,13 +45,11 @@ impl<F: Future + Drop> Stream for OnceFuture<F> {
     {
         match &mut self.future {
             None => Poll::Ready(None),
-            Some(future) => match future.poll() {
-                Poll::Pending => Poll::Pending,
-                Poll::Ready(output) => {
-                    self.future = None;
-                    Poll::Ready(Some(output))
-                }
-            },
+            Some(future) => {
+                let output = ready!(future.poll());
+                self.future = None;
+                Poll::Ready(Some(output))
+            }
         }
     }
 }

@@ -1,12 +1,9 @@
-use Rattle.source.proofs.Slots.{gave, waited_on}
+use Rattle.std.proofs.Common.{refl, rules}
+use Rattle.source.specs.OnceFuturePipeline.SlotPolled.{given, waiting}
 use Rattle.source.proofs.once_future.OnceFutureStream.poll_next.Goals as goal
 
-pub returns-in-Pending : goal.returns-in-Pending
-returns-in-Pending g c =
-    let all = waited_on g.F.Future c.args.self.now c.in-Some.future c.poll.new.self c.in-Some.is c.in-Pending.ensures.polled in
-    record { polled = all.0; future = all.1 }
+pub returns-in-Some-clause-future : goal.returns-in-Some-clause-future
+returns-in-Some-clause-future g c = waiting c.in-Some.future c.poll.new.self c.in-Some.is (search rules) refl refl
 
-pub returns-in-Ready : goal.returns-in-Ready
-returns-in-Ready g c =
-    let all = gave g.F.Future c.args.self.now c.in-Some.future c.poll.new.self c.in-Some.is c.in-Ready.output c.in-Ready.ensures.polled in
-    record { polled = all.0; future = all.1 }
+pub returns-in-Ready-ready-clause-future : goal.returns-in-Ready-ready-clause-future
+returns-in-Ready-ready-clause-future g c = given c.in-Some.future c.poll.new.self _ c.in-Some.is (search rules) refl refl
