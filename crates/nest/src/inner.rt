@@ -2,6 +2,7 @@ ghost use Rattle.stream.specs.Pipelines.{Polled};
 ghost use Rattle.nest.specs.Nested.{pair_answers, pair_pipeline};
 
 use stream::poll::Poll;
+use stream::ready;
 use stream::stream::Stream;
 
 // Polls the inner stream that is held, up to its None, and then the outer one for the next to hold.
@@ -13,16 +14,14 @@ pub fn poll_inner<S: Stream<Item = U>, U: Stream + Drop>(
 {
     loop {
         if let Some(inner) = inner_stream {
-            match inner.poll_next() {
-                Poll::Pending => return Poll::Pending,
-                Poll::Ready(Some(item)) => return Poll::Ready(Some(item)),
-                Poll::Ready(None) => *inner_stream = None,
+            match ready!(inner.poll_next()) {
+                Some(item) => return Poll::Ready(Some(item)),
+                None => *inner_stream = None,
             }
         }
-        match stream.poll_next() {
-            Poll::Pending => return Poll::Pending,
-            Poll::Ready(None) => return Poll::Ready(None),
-            Poll::Ready(Some(inner)) => *inner_stream = Some(inner),
+        match ready!(stream.poll_next()) {
+            Some(inner) => *inner_stream = Some(inner),
+            None => return Poll::Ready(None),
         }
     }
 }

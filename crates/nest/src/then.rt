@@ -6,6 +6,7 @@ ghost use Rattle.nest.specs.ThenPipeline.{ThenTook, then_answers, then_pipeline}
 use stream::callback::Callback;
 use stream::future::Future;
 use stream::poll::Poll;
+use stream::ready;
 use stream::stream::Stream;
 
 // Replaces each item by the output of the future that the callback makes of it.
@@ -52,18 +53,13 @@ impl<S: Stream, F: Callback<Input = S::Item, Output = Fut>, Fut: Future + Drop> 
     {
         loop {
             if let Some(future) = &mut self.future {
-                match future.poll() {
-                    Poll::Pending => return Poll::Pending,
-                    Poll::Ready(item) => {
-                        self.future = None;
-                        return Poll::Ready(Some(item));
-                    }
-                }
-            }
-            match self.stream.poll_next() {
-                Poll::Pending => return Poll::Pending,
-                Poll::Ready(None) => return Poll::Ready(None),
-                Poll::Ready(Some(item)) => self.future = Some(self.f.call(item)),
+                let item = ready!(future.poll());
+                self.future = None;
+                return Poll::Ready(Some(item));
+            } else if let Some(item) = ready!(self.stream.poll_next()) {
+                self.future = Some(self.f.call(item));
+            } else {
+                return Poll::Ready(None);
             }
         }
     }
