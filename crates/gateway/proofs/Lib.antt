@@ -1,4 +1,3 @@
-mod Cutting
 mod Lining
 pub mod Printing
 mod Reporting

@@ -1,20 +1,28 @@
 -- The text of a line, as bytes.
 use Rattle.std.specs.Prelude.{ℕ, List, [], ◌∷◌, ◌++◌, ℤ, codes, decimal}
 use Rattle.std.specs.Fmt.{signed_decimal}
-use Rattle.gateway.specs.Lines.{Said, wait, full, done, fault, refused}
+use Rattle.reading.specs.Faults.{told as fault_told}
+use Rattle.gateway.specs.declared.line.End.{End}
+use Rattle.gateway.specs.declared.line.End.TheVariants.{Wait, Full, Done, Fault}
+use Rattle.gateway.specs.Lines.{Said, polled, refused}
+use Rattle.gateway.specs.Refusals.{told}
+
+-- How a poll ended is one word; a fault has its number and that of its pair after the word.
+abbrev pub end_text : End → List ℕ
+end_text Wait = codes "wait"
+end_text Full = codes "full"
+end_text Done = codes "done"
+end_text (Fault f) = codes "fault " ++ (decimal (fault_told f).number ++ (codes " " ++ decimal (fault_told f).pair))
 
 -- A space and the number, for each of the watts.
 abbrev pub spaced : List ℤ → List ℕ
 spaced [] = []
 spaced (w ∷ ws) = codes " " ++ (signed_decimal w ++ spaced ws)
 
--- A poll's line has its number, how it ended, and its watts; a fault has its number and that of its pair after the word. A refusal has its number, the script and the place. One space stands between each two, and none at the end.
+-- A poll's line has its number, how it ended, and its watts. A refusal has its number, the number of the script and the place. One space stands between each two, and none at the end.
 abbrev pub text : Said → List ℕ
-text (wait n ws) = decimal n ++ (codes " wait" ++ spaced ws)
-text (full n ws) = decimal n ++ (codes " full" ++ spaced ws)
-text (done n ws) = decimal n ++ (codes " done" ++ spaced ws)
-text (fault n number pair ws) = decimal n ++ (codes " fault " ++ (decimal number ++ (codes " " ++ (decimal pair ++ spaced ws))))
-text (refused number script place) = codes "refused " ++ (decimal number ++ (codes " " ++ (decimal script ++ (codes " " ++ decimal place))))
+text (polled n end ws) = decimal n ++ (codes " " ++ (end_text end ++ spaced ws))
+text (refused r) = codes "refused " ++ (decimal (told r).number ++ (codes " " ++ (decimal (told r).script ++ (codes " " ++ decimal (told r).place))))
 
 -- A line ends in a line feed.
 abbrev pub line_text : Said → List ℕ

@@ -1,8 +1,8 @@
 ghost use Rattle.std.specs.Prelude.{Some};
 ghost use Rattle.gateway.specs.Lines.{says};
-ghost use Rattle.gateway.specs.Texts.{spaced, text};
+ghost use Rattle.gateway.specs.Texts.{end_text, spaced, text};
 
-use crate::line::Line;
+use crate::line::{End, Line};
 use std::fmt;
 
 // The watts of a poll, each after a space.
@@ -20,23 +20,25 @@ impl fmt::Display for Watts<'_> {
     }
 }
 
+impl fmt::Display for End {
+    ghost output = { λ end. Some (end_text end) };
+
+    fn fmt<W: fmt::Write>(&self, f: &mut fmt::Formatter<W>) -> fmt::Result {
+        match self {
+            End::Wait => write!(f, "wait"),
+            End::Full => write!(f, "full"),
+            End::Done => write!(f, "done"),
+            End::Fault(fault) => write!(f, "fault {} {}", fault.number(), fault.pair()),
+        }
+    }
+}
+
 impl fmt::Display for Line<'_> {
     ghost output = { λ line. Some (text (says line)) };
 
     fn fmt<W: fmt::Write>(&self, f: &mut fmt::Formatter<W>) -> fmt::Result {
         match *self {
-            Line::Wait { poll, watts } => write!(f, "{poll} wait{}", Watts(watts)),
-            Line::Full { poll, watts } => write!(f, "{poll} full{}", Watts(watts)),
-            Line::Done { poll, watts } => write!(f, "{poll} done{}", Watts(watts)),
-            Line::Fault { poll, fault, watts } => {
-                write!(
-                    f,
-                    "{poll} fault {} {}{}",
-                    fault.number(),
-                    fault.pair(),
-                    Watts(watts)
-                )
-            }
+            Line::Poll { poll, end, watts } => write!(f, "{poll} {end}{}", Watts(watts)),
             Line::Refused(refusal) => {
                 write!(
                     f,

@@ -12,15 +12,12 @@ fn cut(input: &[u8]) -> Result<(&[u8], &[u8]), InputRefusal>
         return Err(InputRefusal::Header);
     };
     let length = usize::from(u16::from_be_bytes([*high, *low]));
-    if length > scripts.len() {
-        return Err(InputRefusal::Header);
-    }
-    Ok((&scripts[0..length], &scripts[length..]))
+    scripts.split_at_checked(length).ok_or(InputRefusal::Header)
 }
 
 // The two sources of an input.
 pub fn open(input: &[u8]) -> Result<(Script<'_>, Script<'_>), InputRefusal>
-    ensures { Opened input.now result }
+    ensures { Opened (λ p. (p.0.left.now, p.1.left.now)) input.now result }
 {
     let (high, low) = cut(input)?;
     let high = Script::new(1, high)?;

@@ -1,42 +1,29 @@
-ghost use Rattle.std.specs.Prelude.{◌≡◌};
-ghost use Rattle.gateway.specs.Lines.{Said, refuses, says};
+ghost use Rattle.gateway.specs.Lines.{Said, says};
 
 use crate::refusal::InputRefusal;
 use reading::fault::Fault;
 
+// How a poll ended.
+#[derive(Clone, Copy)]
+pub enum End {
+    Wait,
+    Full,
+    Done,
+    Fault(Fault),
+}
+
 // What is printed for a poll, with the watts that were put in it, or for an input that is refused.
 #[derive(Clone, Copy)]
 pub enum Line<'a> {
-    Wait {
+    Poll {
         poll: u64,
-        watts: &'a [i32],
-    },
-    Full {
-        poll: u64,
-        watts: &'a [i32],
-    },
-    Done {
-        poll: u64,
-        watts: &'a [i32],
-    },
-    Fault {
-        poll: u64,
-        fault: Fault,
+        end: End,
         watts: &'a [i32],
     },
     Refused(InputRefusal),
 }
 
-impl<'a> Line<'a> {
-    // The variant as a function: the toolchain does not cover a line that is made where it borrows nothing.
-    pub fn refused(refusal: InputRefusal) -> Line<'a>
-        ensures { says result ≡ refuses refusal }
-    {
-        Line::Refused(refusal)
-    }
-}
-
-// Something that prints lines, one after another.
+// Something that prints lines, one after another. A trait, since a closure that prints would owe its callers a `requires`.
 pub trait Printer {
     // That it prints a line, by what the line says.
     ghost prints: { Self → Said → Self → Type 0 };

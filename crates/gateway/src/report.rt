@@ -1,19 +1,17 @@
-ghost use Rattle.std.specs.Prelude.{◌^◌, ◌<◌, List, [], length};
+ghost use Rattle.std.specs.Prelude.{◌≡◌, ◌^◌, ◌<◌, List, [], length};
 ghost use Rattle.gateway.specs.Lines.{Said, lines_from, Printed};
 ghost use Rattle.gateway.specs.Reports.{Reports};
 
 use crate::input::open;
-use crate::line::{Line, Printer};
-use combine::enumerate::Enumerate;
-use combine::zip::Zip;
+use crate::line::{End, Line, Printer};
 use consume::run::{Report, run};
-use consume::step::Step;
+use consume::step::{Ended, Step};
+use ext::stream_ext::StreamExt;
 use fallible::try_collect::TryCollectFuture;
 use reading::fault::Fault;
 use reading::readings::Readings;
 use sink::row::RowSink;
 use stream::stream::Stream;
-use transform::map::Map;
 
 // How many readings a poll can put.
 const PLACES: usize = 4;
@@ -23,11 +21,8 @@ pub fn report<P: Printer>(input: &[u8], printer: &mut P)
     ensures { (ls : List Said) × Reports input.now ls × Printed P.Printer.prints printer.old ls printer.new }
 {
     match open(input) {
-        Err(refusal) => printer.print(Line::refused(refusal)),
-        Ok((high, low)) => print_polls(
-            Map::new(Enumerate::new(Zip::new(high, low)), Readings),
-            printer,
-        ),
+        Err(refusal) => printer.print(Line::Refused(refusal)),
+        Ok((high, low)) => print_polls(high.zip(low).enumerate().map(Readings), printer),
     }
 }
 
@@ -38,36 +33,31 @@ fn print_polls<S: Stream<Item = Result<i32, Fault>> + Drop, P: Printer>(stream: 
 {
     let mut row = [0i32; PLACES];
     let mut sink = RowSink::new(&mut row);
-    let mut no_row = [0i32; 0];
-    let mut unused = RowSink::new(&mut no_row);
+    let mut unused = RowSink::new(&mut []);
     let mut consumer = TryCollectFuture::new(stream);
-    let mut poll = 1;
-    loop {
-        let Report { end, .. } = run(consumer, &mut sink, &mut unused, 1);
-        let watts = sink.items();
-        match end {
-            Step::Wait(next) => {
-                printer.print(Line::Wait { poll, watts });
-                consumer = next;
-            }
-            Step::Full(next) => {
-                printer.print(Line::Full { poll, watts });
-                consumer = next;
-            }
-            Step::Done(_) => {
-                printer.print(Line::Done { poll, watts });
-                return;
-            }
-            Step::Fault(ended) => {
-                printer.print(Line::Fault {
-                    poll,
-                    fault: ended.value,
-                    watts,
-                });
-                return;
-            }
-        }
+    for poll in 1..=u64::MAX {
+        let Report { end: step, .. } = run(consumer, &mut sink, &mut unused, 1);
+        let (end, next) = ending(step);
+        printer.print(Line::Poll {
+            poll,
+            end,
+            watts: sink.items(),
+        });
+        let Some(next) = next else { return };
+        consumer = next;
         sink.empty();
-        poll += 1;
+    }
+    unreachable!()
+}
+
+// How a poll ended, and the consumer if it came back.
+fn ending<C, D: Drop, S: Drop>(step: Step<C, D, Ended<Fault, S, ()>>) -> (End, Option<C>)
+    ensures { elim step [ Step.Wait c ↦ result ≡ (End.Wait, Some c) | Step.Full c ↦ result ≡ (End.Full, Some c) | Step.Done d ↦ result ≡ (End.Done, None) | Step.Fault d ↦ result ≡ (End.Fault d.value, None) ] }
+{
+    match step {
+        Step::Wait(next) => (End::Wait, Some(next)),
+        Step::Full(next) => (End::Full, Some(next)),
+        Step::Done(_) => (End::Done, None),
+        Step::Fault(ended) => (End::Fault(ended.value), None),
     }
 }
