@@ -1,4 +1,3 @@
 mod Lining
 pub mod Printing
 mod Reporting
-mod Spacing

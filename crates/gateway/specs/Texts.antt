@@ -1,6 +1,7 @@
 -- The text of a line, as bytes.
 use Rattle.std.specs.Prelude.{ℕ, List, [], ◌∷◌, ◌++◌, ℤ, codes, decimal}
 use Rattle.std.specs.Fmt.{signed_decimal}
+use Rattle.std.specs.List.{flat_map}
 use Rattle.reading.specs.Faults.{told as fault_told}
 use Rattle.gateway.specs.declared.line.End.{End}
 use Rattle.gateway.specs.declared.line.End.TheVariants.{Wait, Full, Done, Fault}
@@ -16,8 +17,7 @@ end_text (Fault f) = codes "fault " ++ (decimal (fault_told f).number ++ (codes 
 
 -- A space and the number, for each of the watts.
 abbrev pub spaced : List ℤ → List ℕ
-spaced [] = []
-spaced (w ∷ ws) = codes " " ++ (signed_decimal w ++ spaced ws)
+spaced ws = flat_map (λ w. codes " " ++ signed_decimal w) ws
 
 -- A poll's line has its number, how it ended, and its watts. A refusal has its number, the number of the script and the place. One space stands between each two, and none at the end.
 abbrev pub text : Said → List ℕ
@@ -30,5 +30,4 @@ line_text l = text l ++ (10 ∷ [])
 
 -- The lines one after another.
 abbrev pub lines_text : List Said → List ℕ
-lines_text [] = []
-lines_text (l ∷ ls) = line_text l ++ lines_text ls
+lines_text ls = flat_map line_text ls

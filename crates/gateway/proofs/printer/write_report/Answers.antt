@@ -1,10 +1,7 @@
-use Rattle.std.proofs.Common.{is_ok, sym, ap, ◌∙◌}
-use Rattle.gateway.proofs.Printing.{lines_wrote}
+use Rattle.gateway.proofs.Printing.{lines_put}
 use Rattle.gateway.proofs.printer.write_report.Goals as goal
 
 pub returns : goal.returns
-returns g c ok = (
-  c.report.ensures.0,
-  c.report.ensures.1,
-  lines_wrote g.W.Write.write_str_gives c.report.ensures.0 c.new-printer.result c.report.new.printer c.args.text c.finish.result.0 c.new-printer.ensures.text c.finish.ensures.text c.report.ensures.2 (ap (λ r. is_ok r) (sym c.finish.ensures.written) ∙ ok) c.new-printer.ensures.plain,
-)
+returns g c ok =
+    let all = lines_put g.W.Write.write_str_gives c.report.ensures.0 c.new-printer.result c.report.new.printer c.report.ensures.2 c.new-printer.ensures.plain (rw (← c.finish.ensures.written) ok) in
+    (c.report.ensures.0, c.report.ensures.1, rw (← c.new-printer.ensures.text, c.finish.ensures.text) all.wrote)
