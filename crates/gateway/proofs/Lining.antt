@@ -1,5 +1,5 @@
 -- One poll of the readings, and its line.
-use Rattle.std.proofs.Common.{◌≡◌, ℕ, zero, suc, ◌+◌, ◌≤◌, true, false, cond, ltb, List, [], ◌∷◌, ◌++◌, length, ℤ, Some, None, Ok, Err, Option, Result, sym, refl, ap, ◌∙◌, subst₂, arith, length-append, rules}
+use Rattle.std.proofs.Common.{◌≡◌, ℕ, zero, suc, ◌+◌, ◌≤◌, true, false, nat_lt, List, [], ◌∷◌, ◌++◌, length, ℤ, Some, None, Ok, Err, Option, Result, refl, arith, length-append, rules}
 use Rattle.stream.specs.declared.poll.Poll.TheVariants.{Ready, Pending}
 use Rattle.stream.specs.Answers.{Answer}
 use Rattle.stream.specs.declared.stream.Stream.{Ghosts as Streams}
@@ -48,19 +48,20 @@ module _ {K : Type 0} (g : K → ℤ → K) (k : K) (j : ℕ) where
   one_poll n (Pending ∷ xs) ws m e = record { lines = refl; fewer = omega arith }
   one_poll n (Ready None ∷ xs) ws m e = record { lines = refl; fewer = omega arith }
   one_poll n (Ready (Some (Ok w)) ∷ xs) ws zero e =
-      let b : ltb (length ws) 4 ≡ false = search rules in
-      record { lines = ap (λ t. cond t (lines_from n (ws ++ (w ∷ [])) xs) (polled n FullEnd ws ∷ lines_from (n + 1) (w ∷ []) xs)) b; fewer = omega arith }
+      let b : nat_lt (length ws) 4 ≡ false = search rules in
+      record { lines = rw b; fewer = omega arith }
   one_poll n (Ready (Some (Ok w)) ∷ xs) ws (suc m) e =
-      let b : ltb (length ws) 4 ≡ true = search rules in
+      let b : nat_lt (length ws) 4 ≡ true = search rules in
       let p = one_poll n xs (ws ++ (w ∷ [])) m (omega (arith, length-append ws (w ∷ []))) in
-      record { lines = ap (λ t. cond t (lines_from n (ws ++ (w ∷ [])) xs) (polled n FullEnd ws ∷ lines_from (n + 1) (w ∷ []) xs)) b ∙ p.lines; fewer = omega (arith, p.fewer) }
+      record { lines = rw b p.lines; fewer = omega (arith, p.fewer) }
   one_poll n (Ready (Some (Err f)) ∷ xs) ws m e = record { lines = refl; fewer = omega arith }
 
   -- a whole poll that finds the row h empty
   pub whole_poll : (n : ℕ) (o : Option ℤ) (xs : List (Answer (Result ℤ ReadingFault))) (h : List ℤ) (m : ℕ) → h ≡ [] → m ≡ 4 → Polled n (lines_from n (first_watts (one_kept o)) xs) (length xs) (polling (try_collects {S = Unit {0}}).rule (λ h w. h ++ (w ∷ [])) g (one_kept o) None xs h m k j)
-  whole_poll n None xs h m e i = subst₂ (λ a b. Polled n (lines_from n [] xs) (length xs) (drawing (try_collects {S = Unit {0}}).rule (λ h w. h ++ (w ∷ [])) g None xs a b k j)) (sym e) (sym i) (one_poll n xs [] 4 refl)
-  whole_poll n (Some w) xs h m e i =
-      subst₂ (λ a b. Polled n (lines_from n (w ∷ []) xs) (length xs) (polling (try_collects {S = Unit {0}}).rule (λ h w. h ++ (w ∷ [])) g (to_first w ∷ []) None xs a b k j)) (sym e) (sym i) (one_poll n xs (w ∷ []) 3 refl)
+  whole_poll n None xs [] m e i = one_poll n xs [] m (omega arith)
+  whole_poll n (Some w) xs [] (suc m) e i = one_poll n xs (w ∷ []) m (omega arith)
+  whole_poll n (Some w) xs [] zero e i = absurd (omega arith)
+  whole_poll n o xs (w ∷ h) m e i = absurd (cc)
 
 module _ {T : Type 0} (P : Streams T (Result ℤ ReadingFault)) where
   -- the lines that a consumer still gives, from poll n on
