@@ -1,12 +1,12 @@
 -- That the readings of two scripts are few: no list of answers is longer than the bytes that it comes from.
-use Rattle.std.proofs.Common.{◌≡◌, ℕ, suc, ◌+◌, ◌^◌, ◌<◌, ◌≤◌, Bool, true, false, cond, eqb, ltb, List, [], ◌∷◌, length, Some, None, refl, ap, ◌∙◌, arith, ltb-false}
+use Rattle.std.proofs.Common.{◌≡◌, ℕ, suc, ◌+◌, ◌^◌, ◌<◌, ◌≤◌, List, [], ◌∷◌, length, Some, None, refl, ap, ◌∙◌, arith}
+use Rattle.std.proofs.lemmas.Bool.Decides.{nat_tests}
 use Rattle.stream.specs.declared.poll.Poll.TheVariants.{Ready, Pending}
 use Rattle.stream.specs.Answers.{Answer}
 use Rattle.transform.specs.MapRule.{mapped}
 use Rattle.combine.specs.EnumerateRule.{enumerated, next_number}
 use Rattle.combine.specs.ZipRule.{kept, zipped}
-use Rattle.script.specs.declared.refusal.ScriptRefusal.TheVariants.{TooLong}
-use Rattle.script.specs.Checks.{fault_from, refusal}
+use Rattle.script.specs.Checks.{refusal}
 use Rattle.script.specs.Commands.{commands, item_commands, word_commands}
 use Rattle.gateway.specs.Reports.{readings}
 
@@ -34,18 +34,10 @@ length_zipped (Pending ∷ xs) ys = omega (arith, length_zipped xs ys)
 length_zipped (Ready None ∷ xs) ys = omega (arith, length_zipped xs ys)
 length_zipped (Ready (Some x) ∷ xs) ys = length_kept x (zipped xs) (length xs) (length_zipped xs) ys
 
-either_way : {A : Type 0} (b : Bool) (xs ys : List A) (n : ℕ) → length xs ≤ n → length ys ≤ n → length (cond b xs ys) ≤ n
-either_way true xs ys n h k = h
-either_way false xs ys n h k = k
-
 mutual
   length_commands : (s : List ℕ) → length (commands s) ≤ length s
   length_commands [] = omega arith
-  length_commands (byte ∷ s) =
-      let n = suc (length s) in
-      either_way (eqb byte 0x57) _ _ n (omega (arith, length_commands s))
-      (either_way (eqb byte 0x4E) _ _ n (omega (arith, length_commands s))
-      (either_way (eqb byte 0x49) (item_commands s) [] n (omega (arith, length_item s)) (omega arith)))
+  length_commands (byte ∷ s) = grind (arith, length_commands s, length_item s)
 
   length_item : (s : List ℕ) → length (item_commands s) ≤ length s
   length_item [] = omega arith
@@ -57,11 +49,7 @@ mutual
 
 -- A script that is not refused is not too long.
 not_long : (n : ℕ) (s : List ℕ) → refusal n s ≡ None → length s ≤ 4096
-not_long n s e = go (ltb 4096 (length s)) refl e
-  where
-    go : (b : Bool) → ltb 4096 (length s) ≡ b → cond b (Some (TooLong n 4096)) (fault_from n 0 s) ≡ None → length s ≤ 4096
-    go true q h = absurd (cc)
-    go false q h = ltb-false 4096 (length s) q
+not_long n s e = grind (arith, nat_tests)
 
 -- So two scripts that are not refused have few readings.
 pub few_readings : (high low : List ℕ) → refusal 1 high ≡ None → refusal 2 low ≡ None → length (readings high low) < 2 ^ 63
