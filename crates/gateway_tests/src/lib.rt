@@ -2,6 +2,8 @@
 #![tactic(auto)]
 
 #[cfg(test)]
+mod gives;
+#[cfg(test)]
 mod polls;
 mod recorder;
 #[cfg(test)]
