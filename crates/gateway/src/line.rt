@@ -23,7 +23,7 @@ pub enum Line<'a> {
     Refused(InputRefusal),
 }
 
-// Something that prints lines, one after another. A trait, since a closure that prints would owe its callers a `requires`.
+// Something that prints lines, one after another. No closure, since `report` would have to require that it may be called.
 pub trait Printer {
     // That it prints a line, by what the line says.
     ghost prints: { Self → Said → Self → Type 0 };

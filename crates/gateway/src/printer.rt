@@ -1,5 +1,5 @@
 ghost use Rattle.std.specs.Prelude.{◌≡◌, true, List, is_ok, Ok};
-ghost use Rattle.std.specs.Fmt.{formatter_writer, IsPlainFormatter, WritesInCalls};
+ghost use Rattle.std.specs.Fmt.{WritesInCalls};
 ghost use Rattle.gateway.specs.Lines.{Said};
 ghost use Rattle.gateway.specs.Prints.{PrintsText};
 ghost use Rattle.gateway.specs.Reports.{Reports};
@@ -11,29 +11,29 @@ use std::fmt;
 
 // Writes lines as text, up to the first that cannot be written.
 pub struct TextPrinter<W> {
-    text: fmt::Formatter<W>,
+    text: W,
+    // A field beside the text, and no Result that holds it: the text comes back after a failure too.
     written: fmt::Result,
 }
 
 impl<W: fmt::Write> TextPrinter<W> {
     pub fn new(text: W) -> TextPrinter<W>
-        ensures text { formatter_writer result.text ≡ text }
-        ensures plain { IsPlainFormatter result.text }
+        ensures text { result.text ≡ text }
         ensures written { result.written ≡ Ok tt }
     {
         TextPrinter {
-            text: fmt::Formatter::new(text),
+            text,
             written: Ok(()),
         }
     }
 
     // What the text was written to, and whether all of it could be.
     pub fn finish(self) -> (W, fmt::Result)
-        ensures text { result.0 ≡ formatter_writer self.text }
+        ensures text { result.0 ≡ self.text }
         ensures written { result.1 ≡ self.written }
     {
         let TextPrinter { text, written } = self;
-        (text.into_inner(), written)
+        (text, written)
     }
 }
 

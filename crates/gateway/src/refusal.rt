@@ -12,6 +12,7 @@ pub enum InputRefusal {
     Script(ScriptRefusal),
 }
 
+// By hand, since the contract of `open` says which refusal a `?` makes of a script's.
 impl From<ScriptRefusal> for InputRefusal {
     ghost from_gives = { λ refusal r. r ≡ Script refusal };
 
