@@ -7,14 +7,17 @@ use Rattle.transform.specs.MapRule.{mapped}
 use Rattle.combine.specs.EnumerateRule.{enumerated, next_number}
 use Rattle.combine.specs.ZipRule.{kept, zipped}
 use Rattle.script.specs.Checks.{refusal}
-use Rattle.script.specs.Commands.{commands, item_commands, word_commands}
+use Rattle.script.specs.Commands.{StandsFor, commands}
+use Rattle.script.specs.Commands.Command.{wait, none, item}
+use Rattle.script.specs.Commands.StandsFor.{empty, next}
+use Rattle.script.specs.declared.script.Script.{Script}
 use Rattle.gateway.specs.Reports.{readings}
 
-length_mapped : {F A B : Type 0} (out : F → A → B) (next : F → A → F) (f : F) (xs : List (Answer A)) → length (mapped out next f xs) ≡ length xs
-length_mapped out next f [] = refl
-length_mapped out next f (Pending ∷ xs) = ap suc (length_mapped out next f xs)
-length_mapped out next f (Ready None ∷ xs) = ap suc (length_mapped out next f xs)
-length_mapped out next f (Ready (Some x) ∷ xs) = ap suc (length_mapped out next (next f x) xs)
+length_mapped : {F A B : Type 0} (out : F → A → B) (on : F → A → F) (f : F) (xs : List (Answer A)) → length (mapped out on f xs) ≡ length xs
+length_mapped out on f [] = refl
+length_mapped out on f (Pending ∷ xs) = ap suc (length_mapped out on f xs)
+length_mapped out on f (Ready None ∷ xs) = ap suc (length_mapped out on f xs)
+length_mapped out on f (Ready (Some x) ∷ xs) = ap suc (length_mapped out on (on f x) xs)
 
 length_enumerated : {A : Type 0} (i : ℕ) (xs : List (Answer A)) → length (enumerated i xs) ≡ length xs
 length_enumerated i [] = refl
@@ -34,26 +37,20 @@ length_zipped (Pending ∷ xs) ys = omega (arith, length_zipped xs ys)
 length_zipped (Ready None ∷ xs) ys = omega (arith, length_zipped xs ys)
 length_zipped (Ready (Some x) ∷ xs) ys = length_kept x (zipped xs) (length xs) (length_zipped xs) ys
 
-mutual
-  length_commands : (s : List ℕ) → length (commands s) ≤ length s
-  length_commands [] = omega arith
-  length_commands (byte ∷ s) = grind (arith, length_commands s, length_item s)
-
-  length_item : (s : List ℕ) → length (item_commands s) ≤ length s
-  length_item [] = omega arith
-  length_item (high ∷ s) = omega (arith, length_word high s)
-
-  length_word : (high : ℕ) (s : List ℕ) → length (word_commands high s) ≤ length s
-  length_word high [] = omega arith
-  length_word high (low ∷ s) = omega (arith, length_commands s)
+length_right : {s : List ℕ} {l : List (Answer ℕ)} → StandsFor s l → length l ≤ length s
+length_right empty = omega arith
+length_right (next wait h) = omega (arith, length_right h)
+length_right (next none h) = omega (arith, length_right h)
+length_right (next (item e) h) = omega (arith, length_right h)
 
 -- A script that is not refused is not too long.
 not_long : (n : ℕ) (s : List ℕ) → refusal n s ≡ None → length s ≤ 4096
 not_long n s e = grind (arith, nat_tests)
 
 -- So two scripts that are not refused have few readings.
-pub few_readings : (high low : List ℕ) → refusal 1 high ≡ None → refusal 2 low ≡ None → length (readings high low) < 2 ^ 63
+pub few_readings : (high low : Script) → refusal 1 high.left.now ≡ None → refusal 2 low.left.now ≡ None → length (readings high.left.now low.left.now) < 2 ^ 63
 few_readings high low a b =
-    let pairs = zipped (commands high) (commands low) in
-    let same : length (readings high low) ≡ length pairs = length_mapped _ _ _ (enumerated 0 pairs) ∙ length_enumerated 0 pairs in
-    omega (arith, same, length_zipped (commands high) (commands low), length_commands high, length_commands low, not_long 1 high a, not_long 2 low b)
+    let first = commands high.left.now in
+    let second = commands low.left.now in
+    let same : length (readings high.left.now low.left.now) ≡ length (zipped first second) = length_mapped _ _ _ (enumerated 0 (zipped first second)) ∙ length_enumerated 0 (zipped first second) in
+    omega (arith, same, length_zipped first second, length_right high.right, length_right low.right, not_long 1 high.left.now a, not_long 2 low.left.now b)

@@ -6,7 +6,7 @@ use Rattle.gateway.proofs.report.report.Goals as goal
 
 pub print_polls-requires : goal.print_polls-requires
 print_polls-requires g c =
-    let few = few_readings c.in-Ok.high.left.now c.in-Ok.low.left.now c.in-Ok.ensures.1 c.in-Ok.ensures.2 in
+    let few = few_readings c.in-Ok.high c.in-Ok.low c.in-Ok.ensures.1 c.in-Ok.ensures.2 in
     rw (c.map.ensures.list, c.enumerate.ensures.list, c.zip.ensures.list) few
 
 pub returns-in-Err : goal.returns-in-Err
