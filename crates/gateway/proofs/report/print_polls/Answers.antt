@@ -1,6 +1,6 @@
-use Rattle.std.proofs.Common.{◌≡◌, ◌-◌, [], length, take, refl, ap, ◌∙◌, subst, arith}
+use Rattle.std.proofs.Common.{◌≡◌, ◌-◌, [], length, take, refl, ap, ◌∙◌, arith}
 use Rattle.consume.proofs.Once.{once}
-use Rattle.gateway.proofs.Lining.{Fewer, Lined, lined, lines_of, whole_poll}
+use Rattle.gateway.proofs.Lining.{Lined, lined, lines_of, whole_poll}
 use Rattle.gateway.proofs.report.print_polls.Given as given
 use Rattle.gateway.proofs.report.print_polls.Goals as goal
 use Rattle.gateway.proofs.report.print_polls.Goals.{After-items, After-print}
@@ -12,9 +12,10 @@ the-poll g c =
     let row = l.sink.row.now in
     let p = once _ _ _ _ l.consumer l.sink l.unused c.run-step.result c.run-step.new.first c.run-step.new.second c.run-step.ensures in
     let empty : take l.sink.len row ≡ [] = ap (λ n. take n row) l.invariant.empty in
-    let free : length row - l.sink.len ≡ 4 = omega arith in (
+    let free : length row - l.sink.len ≡ 4 = omega arith in
+    let same : length c.run-step.new.first.row.now ≡ length row = ap (λ o. o.1) p.first_sink.since.origin in (
       lined g.S.Stream l.poll c.items.result.now _ _ _ c.run-step.result.end c.ending-end.result (whole_poll _ _ _ l.poll l.consumer.kept (g.S.Stream.answers l.consumer.stream) (take l.sink.len row) (length row - l.sink.len) empty free) p.step c.ending-end.ensures (c.items.ensures ∙ p.first_sink.holds),
-      ap (λ o. o.1) p.first_sink.since.origin ∙ l.invariant.places,
+      omega arith,
     )
 
 pub returns-in_default : goal.returns-in_default
@@ -25,10 +26,9 @@ returns-in_default g c =
 pub loop-poll-preserved : goal.loop-poll-preserved
 loop-poll-preserved g c =
     let poll = the-poll g (goal.at.loop-poll-preserved g c).After-items in
-    let fewer = subst (λ o. Fewer g.S.Stream o (length (g.S.Stream.answers c.loop-poll.consumer.stream))) c.in-Some.is poll.0.fewer in
     record {
       empty = c.empty.ensures.0;
       places = ap length c.empty.ensures.1 ∙ poll.1;
-      polls = omega (arith, fewer);
+      polls = omega (arith, rw c.in-Some.is at poll.0.fewer);
       lines = λ p h. c.loop-poll.invariant.lines p (rw (poll.0.lines, c.in-Some.is) (c.print.new.self, c.print.ensures, h));
     }
