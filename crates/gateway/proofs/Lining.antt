@@ -37,13 +37,13 @@ taken done = 0
 taken fault = 0
 
 -- the lines ls are that of the poll z, whose number is n, and those after it; and of b answers it has left fewer
-pub record Polled {K : Type 0} (n : ℕ) (ls : List Said) (b : ℕ) (z : After (Option ReadingFault) (Result ℤ ReadingFault) ℤ ℤ (List ℤ) K) : Type 0 where
+pub record OnePoll {K : Type 0} (n : ℕ) (ls : List Said) (b : ℕ) (z : After (Option ReadingFault) (Result ℤ ReadingFault) ℤ ℤ (List ℤ) K) : Type 0 where
   pub lines : ls ≡ after n z.ending z
   pub fewer : length z.answers + taken z.ending ≤ b
 
 module _ {K : Type 0} (g : K → ℤ → K) (k : K) (j : ℕ) where
   -- a poll that reads on with ws in the row and m places left
-  one_poll : (n : ℕ) (xs : List (Answer (Result ℤ ReadingFault))) (ws : List ℤ) (m : ℕ) → length ws + m ≡ 4 → Polled n (lines_from n ws xs) (length xs) (drawing (try_collects {S = Unit {0}}).rule (λ h w. h ++ (w ∷ [])) g None xs ws m k j)
+  one_poll : (n : ℕ) (xs : List (Answer (Result ℤ ReadingFault))) (ws : List ℤ) (m : ℕ) → length ws + m ≡ 4 → OnePoll n (lines_from n ws xs) (length xs) (drawing (try_collects {S = Unit {0}}).rule (λ h w. h ++ (w ∷ [])) g None xs ws m k j)
   one_poll n [] ws m e = record { lines = refl; fewer = omega arith }
   one_poll n (Pending ∷ xs) ws m e = record { lines = refl; fewer = omega arith }
   one_poll n (Ready None ∷ xs) ws m e = record { lines = refl; fewer = omega arith }
@@ -57,7 +57,7 @@ module _ {K : Type 0} (g : K → ℤ → K) (k : K) (j : ℕ) where
   one_poll n (Ready (Some (Err f)) ∷ xs) ws m e = record { lines = refl; fewer = omega arith }
 
   -- a whole poll that finds the row h empty
-  pub whole_poll : (n : ℕ) (o : Option ℤ) (xs : List (Answer (Result ℤ ReadingFault))) (h : List ℤ) (m : ℕ) → h ≡ [] → m ≡ 4 → Polled n (lines_from n (first_watts (one_kept o)) xs) (length xs) (polling (try_collects {S = Unit {0}}).rule (λ h w. h ++ (w ∷ [])) g (one_kept o) None xs h m k j)
+  pub whole_poll : (n : ℕ) (o : Option ℤ) (xs : List (Answer (Result ℤ ReadingFault))) (h : List ℤ) (m : ℕ) → h ≡ [] → m ≡ 4 → OnePoll n (lines_from n (first_watts (one_kept o)) xs) (length xs) (polling (try_collects {S = Unit {0}}).rule (λ h w. h ++ (w ∷ [])) g (one_kept o) None xs h m k j)
   whole_poll n None xs [] m e i = one_poll n xs [] m (omega arith)
   whole_poll n (Some w) xs [] (suc m) e i = one_poll n xs (w ∷ []) m (omega arith)
   whole_poll n (Some w) xs [] zero e i = absurd (omega arith)
@@ -65,13 +65,13 @@ module _ {K : Type 0} (g : K → ℤ → K) (k : K) (j : ℕ) where
 
 module _ {T : Type 0} (P : Streams T (Result ℤ ReadingFault)) where
   -- the lines that a consumer still gives, from poll n on
-  abbrev pub lines_of : ℕ → TryCollectFuture T ℤ → List Said
-  lines_of n c = lines_from n (first_watts (one_kept c.kept)) (P.answers c.stream)
+  abbrev pub lines_left : ℕ → TryCollectFuture T ℤ → List Said
+  lines_left n c = lines_from n (first_watts (one_kept c.kept)) (P.answers c.stream)
 
   -- the same where it came back, and none where it is gone
   abbrev pub lines_on : ℕ → Option (TryCollectFuture T ℤ) → List Said
   lines_on n None = []
-  lines_on n (Some c) = lines_of n c
+  lines_on n (Some c) = lines_left n c
 
   abbrev pub Fewer : Option (TryCollectFuture T ℤ) → ℕ → Type 0
   Fewer None b = Unit {0}
@@ -86,7 +86,7 @@ module _ {T : Type 0} (P : Streams T (Result ℤ ReadingFault)) where
     pub lines : ls ≡ polled n p.0 ws ∷ lines_on (n + 1) p.1
     pub fewer : Fewer p.1 b
 
-  pub lined : {K : Type 0} (n : ℕ) (ws : List ℤ) (ls : List Said) (b : ℕ) (z : After (Option ReadingFault) (Result ℤ ReadingFault) ℤ ℤ (List ℤ) K) (r : Step (TryCollectFuture T ℤ) (Ended (Unit {0}) T (Unit {0})) (Ended ReadingFault T (Unit {0}))) (p : End × Option (TryCollectFuture T ℤ)) → Polled n ls b z → Stepped try_collects P z r → Told r p → ws ≡ z.held → Lined n ws ls b p
+  pub lined : {K : Type 0} (n : ℕ) (ws : List ℤ) (ls : List Said) (b : ℕ) (z : After (Option ReadingFault) (Result ℤ ReadingFault) ℤ ℤ (List ℤ) K) (r : Step (TryCollectFuture T ℤ) (Ended (Unit {0}) T (Unit {0})) (Ended ReadingFault T (Unit {0}))) (p : End × Option (TryCollectFuture T ℤ)) → OnePoll n ls b z → Stepped try_collects P z r → Told r p → ws ≡ z.held → Lined n ws ls b p
   lined n ws ls b z (Wait c) p o s t w = rw (t, w) record { lines = rw (o.lines, s.0, ← s.1.kept, ← s.1.answers); fewer = omega (arith, rw (s.0, ← s.1.answers) at o.fewer) }
   lined n ws ls b z (Full c) p o s t w = rw (t, w) record { lines = rw (o.lines, s.0, ← s.1.kept, ← s.1.answers); fewer = omega (arith, rw (s.0, ← s.1.answers) at o.fewer) }
   lined n ws ls b z (Done d) p o s t w = rw (t, w) record { lines = rw (o.lines, s.0); fewer = tt }

@@ -19,12 +19,14 @@ abbrev pub Cut : {A : Type 0} → (A → List ℕ × List ℕ) → List ℕ → 
 Cut bytes input (Ok p) = scripts input ≡ Some (bytes p)
 Cut bytes input (Err r) = (scripts input ≡ None) × (r ≡ Header)
 
--- Why an input is refused: its header is wrong, or one of its two scripts is refused so. The high-word script has the number 1 and the low-word script the number 2; where both are refused, either may be named.
+-- Why an input is refused: its header is wrong, or one of its two scripts is refused so. The high-word script has the
+-- number 1 and the low-word script the number 2; where both are refused, either may be named.
 abbrev pub RefusedFor : List ℕ → InputRefusal → Type 0
 RefusedFor input Header = scripts input ≡ None
 RefusedFor input (Script e) = (s : List ℕ × List ℕ) × (scripts input ≡ Some s) × ((refusal 1 s.0 ≡ Some e) ⊎ (refusal 2 s.1 ≡ Some e))
 
--- What is made of an input: something of its two scripts, neither of which is refused, or a refusal; `bytes` gives the bytes of the two scripts.
+-- What is made of an input: something of its two scripts, neither of which is refused, or a refusal; `bytes` gives the
+-- bytes of the two scripts.
 abbrev pub Opened : {A : Type 0} → (A → List ℕ × List ℕ) → List ℕ → Result A InputRefusal → Type 0
 Opened bytes input (Ok p) = (scripts input ≡ Some (bytes p)) × (refusal 1 (bytes p).0 ≡ None) × (refusal 2 (bytes p).1 ≡ None)
 Opened bytes input (Err r) = RefusedFor input r

@@ -19,7 +19,8 @@ abbrev pub says : Line → Said
 says (Poll n e ws) = polled n e ws.now
 says (Refused r) = refused r
 
--- The lines from poll number n on, in which ws have been put so far, for the answers still to come. A wait ends a poll, and so does a reading that finds no place beside four others: it comes first in the next poll. None and a fault end all.
+-- The lines from poll number n on, in which ws have been put so far, for the answers still to come. A wait ends a poll, and
+-- so does a reading that finds no place beside four others: it comes first in the next poll. None and a fault end all.
 abbrev pub lines_from : ℕ → List ℤ → List (Answer (Result ℤ ReadingFault)) → List Said
 lines_from n ws [] = polled n Done ws ∷ []
 lines_from n ws (Pending ∷ xs) = polled n Wait ws ∷ lines_from (n + 1) [] xs

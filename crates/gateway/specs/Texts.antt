@@ -19,7 +19,8 @@ end_text (Fault f) = codes "fault " ++ (decimal (fault_told f).number ++ (codes 
 abbrev pub spaced : List ℤ → List ℕ
 spaced ws = flat_map (λ w. codes " " ++ signed_decimal w) ws
 
--- A poll's line has its number, how it ended, and its watts. A refusal has its number, the number of the script and the place. One space stands between each two, and none at the end.
+-- A poll's line has its number, how it ended, and its watts. A refusal has its number, the number of the script and the
+-- place. One space stands between each two, and none at the end.
 abbrev pub text : Said → List ℕ
 text (polled n end ws) = decimal n ++ (codes " " ++ (end_text end ++ spaced ws))
 text (refused r) = codes "refused " ++ (decimal (told r).number ++ (codes " " ++ (decimal (told r).script ++ (codes " " ++ decimal (told r).place))))

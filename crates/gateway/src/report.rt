@@ -47,6 +47,7 @@ fn print_polls<S: Stream<Item = Result<i32, Fault>> + Drop, P: Printer>(stream: 
         consumer = next;
         sink.empty();
     }
+    // There are fewer answers than numbers.
     unreachable!()
 }
 

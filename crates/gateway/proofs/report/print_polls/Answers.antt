@@ -1,12 +1,12 @@
 use Rattle.std.proofs.Common.{◌≡◌, ◌-◌, [], length, take, refl, ap, ◌∙◌, arith}
 use Rattle.consume.proofs.Once.{once}
-use Rattle.gateway.proofs.Lining.{Lined, lined, lines_of, whole_poll}
+use Rattle.gateway.proofs.Lining.{Lined, lined, lines_left, whole_poll}
 use Rattle.gateway.proofs.report.print_polls.Given as given
 use Rattle.gateway.proofs.report.print_polls.Goals as goal
 use Rattle.gateway.proofs.report.print_polls.Goals.{After-items, After-print}
 
 -- The line of the poll that was made, and the lines after it; and the row keeps its places.
-the-poll : (g : given.Over) (c : After-items g) → Lined g.S.Stream c.loop-poll.poll c.items.result.now (lines_of g.S.Stream c.loop-poll.poll c.loop-poll.consumer) (length (g.S.Stream.answers c.loop-poll.consumer.stream)) c.ending-end.result × (length c.run-step.new.first.row.now ≡ 4)
+the-poll : (g : given.Over) (c : After-items g) → Lined g.S.Stream c.loop-poll.poll c.items.result.now (lines_left g.S.Stream c.loop-poll.poll c.loop-poll.consumer) (length (g.S.Stream.answers c.loop-poll.consumer.stream)) c.ending-end.result × (length c.run-step.new.first.row.now ≡ 4)
 the-poll g c =
     let l = c.loop-poll in
     let row = l.sink.row.now in
