@@ -14,7 +14,7 @@ the-poll g c =
     let empty : take l.sink.len row ≡ [] = ap (λ n. take n row) l.invariant.empty in
     let free : length row - l.sink.len ≡ 4 = omega arith in
     let same : length c.run-step.new.first.row.now ≡ length row = ap (λ o. o.1) p.first_sink.since.origin in (
-      lined g.S.Stream l.poll c.items.result.now _ _ _ c.run-step.result.end c.ending-end.result (whole_poll _ _ _ l.poll l.consumer.kept (g.S.Stream.answers l.consumer.stream) (take l.sink.len row) (length row - l.sink.len) empty free) p.step c.ending-end.ensures (c.items.ensures ∙ p.first_sink.holds),
+      lined g.S.Stream l.poll c.items.result.now _ _ _ c.run-step.result.end c.ending-end.result (whole_poll _ _ _ l.poll l.consumer.kept (g.S.Stream.answers l.consumer.stream) (take l.sink.len row) (length row - l.sink.len) empty free) p.step c.ending-end.ensures (rw c.items.ensures p.first_sink.holds),
       omega arith,
     )
 
