@@ -3,8 +3,8 @@ use Rattle.std.proofs.Common.{◌≡◌, ℕ, suc, ◌+◌, ◌^◌, ◌<◌, �
 use Rattle.std.proofs.lemmas.Bool.Decides.{nat_tests}
 use Rattle.stream.specs.declared.poll.Poll.TheVariants.{Ready, Pending}
 use Rattle.stream.specs.Answers.{Answer}
-use Rattle.transform.specs.MapRule.{mapped}
-use Rattle.combine.specs.EnumerateRule.{enumerated, next_number}
+use Rattle.stream.specs.Itemwise.{itemwise, item as item_made}
+use Rattle.combine.specs.EnumerateRule.{enumerated}
 use Rattle.combine.specs.ZipRule.{kept, zipped}
 use Rattle.script.specs.Checks.{refusal}
 use Rattle.script.specs.Commands.{StandsFor, commands}
@@ -13,17 +13,11 @@ use Rattle.script.specs.Commands.StandsFor.{empty, next}
 use Rattle.script.specs.declared.script.Script.{Script}
 use Rattle.gateway.specs.Reports.{readings}
 
-length_mapped : {F A B : Type 0} (out : F → A → B) (on : F → A → F) (f : F) (xs : List (Answer A)) → length (mapped out on f xs) ≡ length xs
-length_mapped out on f [] = refl
-length_mapped out on f (Pending ∷ xs) = ap suc (length_mapped out on f xs)
-length_mapped out on f (Ready None ∷ xs) = ap suc (length_mapped out on f xs)
-length_mapped out on f (Ready (Some x) ∷ xs) = ap suc (length_mapped out on (on f x) xs)
-
-length_enumerated : {A : Type 0} (i : ℕ) (xs : List (Answer A)) → length (enumerated i xs) ≡ length xs
-length_enumerated i [] = refl
-length_enumerated i (Pending ∷ xs) = ap suc (length_enumerated i xs)
-length_enumerated i (Ready None ∷ xs) = ap suc (length_enumerated i xs)
-length_enumerated i (Ready (Some x) ∷ xs) = ap suc (length_enumerated (next_number i) xs)
+length_items : {F A B : Type 0} (out : F → A → B) (on : F → A → F) (f : F) (xs : List (Answer A)) → length (itemwise (λ f x. item_made (out f x)) on f xs) ≡ length xs
+length_items out on f [] = refl
+length_items out on f (Pending ∷ xs) = ap suc (length_items out on f xs)
+length_items out on f (Ready None ∷ xs) = ap suc (length_items out on f xs)
+length_items out on f (Ready (Some x) ∷ xs) = ap suc (length_items out on (on f x) xs)
 
 length_kept : {A B : Type 0} (x : A) (k : List (Answer B) → List (Answer (A × B))) (n : ℕ) → ((ys : List (Answer B)) → length (k ys) ≤ n + length ys) → (ys : List (Answer B)) → length (kept x k ys) ≤ suc n + length ys
 length_kept x k n h [] = omega (arith, h [])
@@ -52,5 +46,5 @@ pub few_readings : (high low : Script) → refusal 1 high.left.now ≡ None → 
 few_readings high low a b =
     let first = commands high.left.now in
     let second = commands low.left.now in
-    let same : length (readings high.left.now low.left.now) ≡ length (zipped first second) = length_mapped _ _ _ (enumerated 0 (zipped first second)) ∙ length_enumerated 0 (zipped first second) in
+    let same : length (readings high.left.now low.left.now) ≡ length (zipped first second) = length_items _ _ _ (enumerated 0 (zipped first second)) ∙ length_items _ _ _ (zipped first second) in
     omega (arith, same, length_zipped first second, length_right high.right, length_right low.right, not_long 1 high.left.now a, not_long 2 low.left.now b)
