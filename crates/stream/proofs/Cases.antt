@@ -1,7 +1,6 @@
 -- Ruling cases out, and reading an answer off a poll.
 use Rattle.std.proofs.Common.{◌≡◌, ℕ, false, List, [], ◌∷◌, is_some, Some, None, Option, refl, subst, arith}
 use Rattle.stream.specs.declared.poll.Poll.TheVariants.{Ready, Pending}
-use Rattle.stream.specs.declared.stream.Stream.{Ghosts as Streams}
 use Rattle.stream.specs.Answers.{Answer, first}
 use Rattle.stream.specs.Pipelines.{Pipeline, Polled}
 
@@ -17,10 +16,6 @@ pub answered_as : {S A : Type 0} {answers : S → List (Answer A)} {pipeline : P
 answered_as {answers = answers} {pipeline = pipeline} {s = s} {t = t} r' e p = subst (λ a. Polled answers pipeline s a t) e p
 
 -- a poll that answered o, where the equation at hand has another term for o
-pub read_as : {S A : Type 0} (below : Streams S A) (s : S) (o o' : Option A) (t : S) → Polled below.answers below.pipeline s (Ready o) t → Ready o' ≡ first (below.answers s) → Polled below.answers below.pipeline s (Ready o') t
-read_as below s o o' t p e = record { answer = e; after = p.after; took = p.took }
-
--- the same of a stream that is known by its list
 pub answered : {S A : Type 0} {answers : S → List (Answer A)} {pipeline : Pipeline answers} {s t : S} {o : Option A} (o' : Option A) → Polled answers pipeline s (Ready o) t → Ready o' ≡ first (answers s) → Polled answers pipeline s (Ready o') t
 answered o' p e = record { answer = e; after = p.after; took = p.took }
 

@@ -1,9 +1,9 @@
 -- A list up to its first None, by its first answer.
-use Rattle.std.proofs.Common.{◌≡◌, List, Some, None, refl, ap}
+use Rattle.std.proofs.Common.{◌≡◌, List, Some, refl, ap}
 use Rattle.stream.specs.declared.poll.Poll.TheVariants.{Ready, Pending}
 use Rattle.stream.specs.Answers.{Answer, first, rest}
 use Rattle.stream.specs.Nones.{before_none}
-use Rattle.stream.proofs.Cases.{at_wait, at_none, at_item}
+use Rattle.stream.proofs.Cases.{at_wait, at_item}
 
 module _ {A : Type 0} (k : List (Answer A)) where
   -- the answer r of a list is passed on
@@ -15,6 +15,3 @@ module _ {A : Type 0} (k : List (Answer A)) where
 
   pub item_before_none : (x : A) (xs : List (Answer A)) → Ready (Some x) ≡ first xs → PassedOn (Ready (Some x)) xs
   item_before_none x xs e = at_item (PassedOn (Ready (Some x))) x xs e (λ ys y q. (ap (λ z. Ready (Some z)) q, refl))
-
-  pub none_before_none : (xs : List (Answer A)) → Ready None ≡ first xs → before_none xs k ≡ k
-  none_before_none xs e = at_none (λ l. before_none l k ≡ k) xs e refl (λ ys. refl)
