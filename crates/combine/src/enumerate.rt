@@ -44,6 +44,7 @@ impl<S: Stream> Stream for Enumerate<S> {
         ensures stream { S.Stream.answers self.new.stream ≡ rest (S.Stream.answers self.old.stream) }
         ensures number { self.new.i ≡ called (λ i _. next_number i) self.old.i (first (S.Stream.answers self.old.stream)) }
     {
+        // A match, since Option's `map` does not promise that a closure that it does not call leaves the number as it was.
         match ready!(self.stream.poll_next()) {
             None => Poll::Ready(None),
             Some(item) => {

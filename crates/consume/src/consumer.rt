@@ -26,7 +26,7 @@ pub trait Consumer: Sized {
     ghost meaning: { Meaning Self Self.Below Self.Item Self.First Self.Second Self.Output Self.Error Self.Callback };
 
     // Offers what it keeps, and then reads on: up to the first wait of its stream, to the first put that is refused, or to
-    // its end.
+    // its end. Two sinks and no struct of both: a caller lends each by itself, and one that is not used stays as it was.
     fn poll<X: Sink<Item = Self::First>, Y: Sink<Item = Self::Second>>(
         self,
         first: &mut X,

@@ -22,6 +22,7 @@ impl From<ScriptRefusal> for InputRefusal {
 }
 
 impl InputRefusal {
+    // Its number in the list of refusals. No trait has it, since nothing takes refusals of more than one kind.
     pub fn number(self) -> u8
         ensures { result ≡ (told self).number }
     {
@@ -31,6 +32,7 @@ impl InputRefusal {
         }
     }
 
+    // The script's number; 0 and no Option where there is no script, since a line prints a number there.
     pub fn script(self) -> u8
         ensures { result ≡ (told self).script }
     {
@@ -40,6 +42,7 @@ impl InputRefusal {
         }
     }
 
+    // The place in the script; 0 likewise.
     pub fn place(self) -> u64
         ensures { result ≡ (told self).place }
     {

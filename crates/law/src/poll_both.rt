@@ -5,6 +5,7 @@ use stream::callback::Callback;
 use stream::stream::Stream;
 
 // Polls two pipelines so many times in all, in any order: the viewer is shown each answer, and says whose turn is next.
+// A turn is a value and no closure, so that the law can speak of every order of turns.
 pub fn poll_both<P: Stream, Q: Stream, V: Callback<Input = Shown<P::Item, Q::Item>, Output = Turn>>(
     p: &mut P,
     q: &mut Q,

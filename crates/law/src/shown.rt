@@ -7,7 +7,7 @@ pub enum Turn {
     Second,
 }
 
-// What a poll of one of two pipelines answered.
+// What a poll of one of two pipelines answered. No Result, since neither is a failure.
 #[derive(Drop)]
 pub enum Shown<A, B> {
     First(Poll<Option<A>>),

@@ -9,7 +9,7 @@ pub enum StepRefusal<S> {
 }
 
 impl<S> StepRefusal<S> {
-    // The refusal's number in the list of refusals.
+    // Its number in the list of refusals. No trait has it, since nothing takes refusals of more than one kind.
     pub fn number(&self) -> u8
         ensures { result ≡ number self.now }
     {

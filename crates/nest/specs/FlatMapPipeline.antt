@@ -18,7 +18,7 @@ module _ {S F A U B : Type 0} (below : Streams S A) (callback : Callbacks F A U)
   abbrev pub flat_map_answers : FlatMap S U F → List (Answer B)
   flat_map_answers m = nested_answers map_streams inner m.stream m.inner_stream
 
-  -- One poll of a FlatMap, from m to n, that took w waits from below. Each poll of the Map in it says what its stream became; what its callback became is not said.
+  -- One poll of a FlatMap, from m to n, that took w waits from below. Each poll of the Map in it says what its stream and its callback became.
   abbrev pub FlatMapTook : FlatMap S U F → ℕ → FlatMap S U F → Type 0
   FlatMapTook m w n = NestedTook map_streams inner m.stream m.inner_stream w n.stream n.inner_stream
 

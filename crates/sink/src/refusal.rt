@@ -1,14 +1,15 @@
 ghost use Rattle.std.specs.Prelude.{◌≡◌};
 ghost use Rattle.sink.specs.Refusals.{item, number};
 
-// Why a put is refused, with the item handed back.
+// Why a put is refused, with the item handed back. An enum of one case, since refusals are numbered in one list, and more can join; a
+// step's is alike, and neither crate stands on the other.
 #[derive(Debug, Drop, PartialEq, Eq)]
 pub enum PutRefusal<T> {
     Full(T),
 }
 
 impl<T> PutRefusal<T> {
-    // The refusal's number in the list of refusals.
+    // Its number in the list of refusals. No trait has it, since nothing takes refusals of more than one kind.
     pub fn number(&self) -> u8
         ensures { result ≡ number self.now }
     {

@@ -1,7 +1,8 @@
 ghost use Rattle.std.specs.Prelude.{◌≡◌, not};
 ghost use Rattle.stream.specs.Answers.{ready};
 
-// What a poll answers: a value, or a wait.
+// What a poll answers: a value, or a wait. An enum of its own, as the crate has it, since in an Option of an Option a wait and an end
+// would read alike.
 #[derive(Clone, Copy, Debug, PartialEq)]
 pub enum Poll<T> {
     Ready(T),

@@ -1,5 +1,6 @@
 // Adapters that turn each item into one answer.
-// Each is a type of its own, though all hold a stream and a callback: the names are those of the library that they come from, and each type has its own rule.
+// Each is a type of its own, though all hold a stream and a callback: a port keeps the names of its source, and each type is what
+// carries its rule. So each says by clauses of its own what its stream and its callback hold after a poll.
 #![tactic(auto)]
 
 pub mod map;
