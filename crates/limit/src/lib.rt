@@ -1,5 +1,5 @@
-// Adapters that pass a part of the list, by numbers or up to its first None. Take and Skip hold alike fields, and stay types of their
-// own: a port keeps the names of its source, and each type is what carries its rule.
+// Adapters that pass a part of the list, by numbers or up to its first None. Take and Skip hold alike fields, and stay types of
+// their own: a port keeps the names of its source, and each type is what carries its rule.
 #![tactic(auto)]
 
 pub mod fuse;
