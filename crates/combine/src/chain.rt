@@ -48,8 +48,7 @@ impl<S: Stream, U: Stream<Item = S::Item>> Stream for Chain<S, U> {
     {
         match ready!(self.first.poll_next()) {
             None => self.second.poll_next(),
-            // Taken apart and built again: bound whole, it would be let go in the arm above, and an item need not be Drop.
-            Some(item) => Poll::Ready(Some(item)),
+            next => Poll::Ready(next),
         }
     }
 }

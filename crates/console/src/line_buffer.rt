@@ -5,7 +5,8 @@ use std::io::Write;
 // How many bytes are kept before they are written; a line of the programs is far shorter.
 const LINE_LEN: usize = 1024;
 
-// A writer behind a place for the bytes of a line, so that a line goes out in one write.
+// A writer behind a place for the bytes of a line, so that a line goes out in one write. No BufWriter, whose memory is the heap's and can
+// be refused.
 #[derive(Drop)]
 pub struct LineBuffer<W> {
     writer: W,
@@ -34,11 +35,10 @@ impl<W: Write> LineBuffer<W> {
         if text.len() > self.line.remaining_capacity() {
             self.flush()?;
         }
-        // No `or_else`: what its closure would leave in the writer is not known to the proof.
-        match self.line.try_extend_from_slice(text) {
-            Ok(()) => Ok(()),
-            Err(_) => self.writer.write_all(text),
+        if self.line.try_extend_from_slice(text).is_err() {
+            self.writer.write_all(text)?;
         }
+        Ok(())
     }
 
     // Takes the text, and writes what it kept where the text ends a line.

@@ -77,6 +77,7 @@ module _ {C T I A B O E F X Y : Type 0} {M : Meaning C T I A B O E F} {P : Strea
       let e : comes_to M P U V t s (to_first a ∷ ps) u v ≡ comes_to M P U V t s ps u' v = rw p.holds (rw (sym p.fewer ∙ add-one (U.left u')) refl) in
       record { same = sym e ∙ w.same; first_since = one_put w.first_since p o; second_since = w.second_since; drew = w.drew }
 
+  -- No consumer here puts in a second sink or stops yet: this lemma, `second_refused` and `stopped` are for those that will.
   pub second_taken : {t : T} {s : M.State} {u : X} {v v' : Y} {b : B} {ps : List (Put A B)} → Within M P U V c x y t s (to_second b ∷ ps) u v → Taken V.held V.makes V.left v b v' → V.origin v' ≡ V.origin v → Within M P U V c x y t s ps u v'
   second_taken {t = t} {s = s} {u = u} {v = v} {v' = v'} {b = b} {ps = ps} w p o =
       let e : comes_to M P U V t s (to_second b ∷ ps) u v ≡ comes_to M P U V t s ps u v' = rw p.holds (rw (sym p.fewer ∙ add-one (V.left v')) refl) in

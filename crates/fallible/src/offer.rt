@@ -4,7 +4,7 @@ ghost use Rattle.fallible.specs.Offers.{Offered};
 use sink::refusal::PutRefusal;
 use sink::sink::Sink;
 
-// Puts a good item, and passes a fault on.
+// Puts a good item, and passes a fault on: the fault goes by `?`, past what the sink answers.
 pub fn offer<T, E, X: Sink<Item = T>>(
     sink: &mut X,
     item: Result<T, E>,

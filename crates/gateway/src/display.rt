@@ -39,15 +39,13 @@ impl fmt::Display for Line<'_> {
     fn fmt<W: fmt::Write>(&self, f: &mut fmt::Formatter<W>) -> fmt::Result {
         match *self {
             Line::Poll { poll, end, watts } => write!(f, "{poll} {end}{}", Watts(watts)),
-            Line::Refused(refusal) => {
-                write!(
-                    f,
-                    "refused {} {} {}",
-                    refusal.number(),
-                    refusal.script(),
-                    refusal.place()
-                )
-            }
+            Line::Refused(refusal) => write!(
+                f,
+                "refused {} {} {}",
+                refusal.number(),
+                refusal.script(),
+                refusal.place()
+            ),
         }
     }
 }

@@ -15,12 +15,10 @@ fn cut(input: &[u8]) -> Result<(&[u8], &[u8]), InputRefusal>
     scripts.split_at_checked(length).ok_or(InputRefusal::Header)
 }
 
-// The two sources of an input.
+// The two sources of an input. Their numbers, 1 and 2, are what a refusal is printed with.
 pub fn open(input: &[u8]) -> Result<(Script<'_>, Script<'_>), InputRefusal>
     ensures { Opened (λ p. (p.0.left.now, p.1.left.now)) input.now result }
 {
     let (high, low) = cut(input)?;
-    let high = Script::new(1, high)?;
-    let low = Script::new(2, low)?;
-    Ok((high, low))
+    Ok((Script::new(1, high)?, Script::new(2, low)?))
 }

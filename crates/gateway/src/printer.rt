@@ -12,7 +12,7 @@ use std::fmt;
 // Writes lines as text, up to the first that cannot be written.
 pub struct TextPrinter<W> {
     text: W,
-    // A field beside the text, and no Result that holds it: the text comes back after a failure too.
+    // A flag and no `?`: `report` cannot fail, whatever it prints to, and the text comes back after a failure too.
     written: fmt::Result,
 }
 

@@ -5,7 +5,7 @@ ghost use Rattle.gateway.specs.Refusals.{told};
 use script::refusal::ScriptRefusal;
 
 // Why an input is refused.
-#[derive(Clone, Copy)]
+#[derive(Clone, Copy, Debug, PartialEq)]
 pub enum InputRefusal {
     // It has fewer than two bytes, or its length is above the bytes that follow.
     Header,
@@ -32,7 +32,7 @@ impl InputRefusal {
         }
     }
 
-    // The script's number; 0 and no Option where there is no script, since a line prints a number there.
+    // The script's number. A wrong header has 0 and no None: that is how the list of refusals has it.
     pub fn script(self) -> u8
         ensures { result ≡ (told self).script }
     {

@@ -4,7 +4,7 @@ ghost use Rattle.gateway.specs.Reports.{Reports};
 
 use crate::input::open;
 use crate::line::{End, Line, Printer};
-use consume::run::{Report, run};
+use consume::run::run;
 use consume::step::{Ended, Step};
 use ext::stream_ext::StreamExt;
 use fallible::try_collect::TryCollectFuture;
@@ -36,8 +36,7 @@ fn print_polls<S: Stream<Item = Result<i32, Fault>> + Drop, P: Printer>(stream: 
     let mut unused = RowSink::new(&mut []);
     let mut consumer = TryCollectFuture::new(stream);
     for poll in 1..=u64::MAX {
-        let Report { end: step, .. } = run(consumer, &mut sink, &mut unused, 1);
-        let (end, next) = ending(step);
+        let (end, next) = ending(run(consumer, &mut sink, &mut unused, 1).end);
         printer.print(Line::Poll {
             poll,
             end,

@@ -7,7 +7,7 @@ pub enum Turn {
     Second,
 }
 
-// What a poll of one of two pipelines answered. No Result, since neither is a failure.
+// What a poll of one of two pipelines answered. Cases by name and no Either: the law speaks of a first and a second.
 #[derive(Drop)]
 pub enum Shown<A, B> {
     First(Poll<Option<A>>),

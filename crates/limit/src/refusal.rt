@@ -1,9 +1,9 @@
 ghost use Rattle.std.specs.Prelude.{◌≡◌};
 ghost use Rattle.limit.specs.Refusals.{number, stream_of};
 
-// Why a StepBy is not made, with the stream handed back as it was. An enum of one case, since refusals are numbered in one list, and
-// more can join.
-#[derive(Drop)]
+// Why a StepBy is not made, with the stream handed back as it was. An enum of one case, since each refusal of the list is a
+// case of one.
+#[derive(Debug, Drop, PartialEq, Eq)]
 pub enum StepRefusal<S> {
     ZeroStep(S),
 }

@@ -1,5 +1,5 @@
-// Adapters over streams of futures and streams of streams. Flatten and FlatMap hold alike fields and poll by one function; they stay
-// two types, since a port keeps the names of its source.
+// Adapters over streams of futures and streams of streams. Flatten and FlatMap hold alike fields and poll by one function;
+// they stay two types with the fields of their source.
 #![tactic(auto)]
 
 pub mod flat_map;

@@ -3,7 +3,8 @@ ghost use Rattle.reading.specs.Faults.{told};
 
 use crate::layer::Layer;
 
-// Why a pair of words has no reading, with the pair's number from 0. One case so far, and an enum so that others can join.
+// Why a pair of words has no reading, with the pair's number from 0. One case so far; each
+// refusal is a case of an enum.
 #[derive(Clone, Copy, Debug, PartialEq)]
 pub enum Fault {
     NotImplemented { layer: Layer, pair: u64 },

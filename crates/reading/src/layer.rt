@@ -1,4 +1,4 @@
-// The layer that a fault comes from. One so far, and an enum so that others can join.
+// The layer that a fault comes from. One so far; a fault carries its layer.
 #[derive(Clone, Copy, Debug, PartialEq)]
 pub enum Layer {
     Reading,

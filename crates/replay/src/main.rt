@@ -11,6 +11,7 @@ const LIST_LEN: usize = 65536;
 // Runs the inputs of a list, each behind its length in two bytes, high byte first, with a blank line after the lines of
 // each. A last input that is cut short is run as it is.
 fn main(rt: HostRuntime) -> io::Result<()> {
+    // An array, since no heap is asked for.
     let mut buffer = [0u8; LIST_LEN];
     let mut rest = read_up_to(&mut rt.stdin(), &mut buffer)?;
     while let [high, low, inputs @ ..] = rest {

@@ -1,7 +1,7 @@
 ghost use Rattle.std.specs.Prelude.{◌≡◌};
 ghost use Rattle.sink.specs.Refusals.{item, number};
 
-// Why a put is refused, with the item handed back. An enum of one case, since refusals are numbered in one list, and more can join; a
+// Why a put is refused, with the item handed back. An enum of one case, since each refusal of the list is a case of one; a
 // step's is alike, and neither crate stands on the other.
 #[derive(Debug, Drop, PartialEq, Eq)]
 pub enum PutRefusal<T> {

@@ -85,7 +85,7 @@ impl<'a, T> RowSink<'a, T> {
     }
 }
 
-// Writes an item into its place of the row, which a sink hands on to it.
+// Writes an item into its place of the row. A function, to which the row is handed on: `get_mut` in `put` left its clauses open.
 fn store<T: Copy>(row: &mut [T], at: usize, item: T)
     requires { at < length row.old }
     ensures { row.new ≡ slice_set row.old at item }

@@ -15,8 +15,8 @@ pub trait Stream {
     // delay-insensitive adapter.
     ghost pipeline: { Pipeline answers };
 
-    // Answers the first of its list, and leaves the rest. An implementation that promises more repeats this clause: its own stand in place
-    // of the trait's.
+    // Answers the first of its list, and leaves the rest. An implementation that promises more repeats this clause: its own
+    // stand in place of the trait's.
     fn poll_next(&mut self) -> Poll<Option<Self::Item>>
         ensures polled { Polled answers pipeline self.old result self.new };
 }

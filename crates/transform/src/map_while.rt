@@ -9,7 +9,7 @@ use stream::poll::Poll;
 use stream::ready;
 use stream::stream::Stream;
 
-// Turns each item into the callback's output, or into None, and goes on at the next poll.
+// Turns each item into the callback's output, or into None, and goes on at the next poll. Scan does the same under its own name.
 #[derive(Drop)]
 pub struct MapWhile<S, P> {
     stream: S,

@@ -47,6 +47,7 @@ where
         ensures stream { S.Stream.answers self.new.stream ≡ rest (S.Stream.answers self.old.stream) }
         ensures callback { self.new.predicate ≡ called P.Callback.next self.old.predicate (first (S.Stream.answers self.old.stream)) }
     {
+        // A match, since Option's `filter` does not promise that a closure that it does not call leaves the callback as it was.
         match ready!(self.stream.poll_next()) {
             None => Poll::Ready(None),
             Some(item) => Poll::Ready(self.predicate.call(item).then_some(item)),

@@ -6,15 +6,15 @@ use Rattle.gateway.proofs.report.print_polls.Goals as goal
 use Rattle.gateway.proofs.report.print_polls.Goals.{After-items, After-print}
 
 -- The line of the poll that was made, and the lines after it; and the row keeps its places.
-the-poll : (g : given.Over) (c : After-items g) → Lined g.S.Stream c.loop-poll.poll c.items.result.now (lines_left g.S.Stream c.loop-poll.poll c.loop-poll.consumer) (length (g.S.Stream.answers c.loop-poll.consumer.stream)) c.ending-end.result × (length c.run-step.new.first.row.now ≡ 4)
+the-poll : (g : given.Over) (c : After-items g) → Lined g.S.Stream c.loop-poll.poll c.items.result.now (lines_left g.S.Stream c.loop-poll.poll c.loop-poll.consumer) (length (g.S.Stream.answers c.loop-poll.consumer.stream)) c.ending-end.result × (length c.run.new.first.row.now ≡ 4)
 the-poll g c =
     let l = c.loop-poll in
     let row = l.sink.row.now in
-    let p = once _ _ _ _ l.consumer l.sink l.unused c.run-step.result c.run-step.new.first c.run-step.new.second c.run-step.ensures in
+    let p = once _ _ _ _ l.consumer l.sink l.unused c.run.result c.run.new.first c.run.new.second c.run.ensures in
     let empty : take l.sink.len row ≡ [] = ap (λ n. take n row) l.invariant.empty in
     let free : length row - l.sink.len ≡ 4 = omega arith in
-    let same : length c.run-step.new.first.row.now ≡ length row = ap (λ o. o.1) p.first_sink.since.origin in (
-      lined g.S.Stream l.poll c.items.result.now _ _ _ c.run-step.result.end c.ending-end.result (whole_poll _ _ _ l.poll l.consumer.kept (g.S.Stream.answers l.consumer.stream) (take l.sink.len row) (length row - l.sink.len) empty free) p.step c.ending-end.ensures (rw c.items.ensures p.first_sink.holds),
+    let same : length c.run.new.first.row.now ≡ length row = ap (λ o. o.1) p.first_sink.since.origin in (
+      lined g.S.Stream l.poll c.items.result.now _ _ _ c.run.result.end c.ending-end.result (whole_poll _ _ _ l.poll l.consumer.kept (g.S.Stream.answers l.consumer.stream) (take l.sink.len row) (length row - l.sink.len) empty free) p.step c.ending-end.ensures (rw c.items.ensures p.first_sink.holds),
       omega arith,
     )
 

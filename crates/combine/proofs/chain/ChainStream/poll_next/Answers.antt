@@ -1,7 +1,7 @@
-use Rattle.std.proofs.Common.{Some, None, rules}
+use Rattle.std.proofs.Common.{None, rules}
 use Rattle.stream.specs.declared.poll.Poll.TheVariants.{Ready, Pending}
 use Rattle.stream.proofs.Cases.{answered_as}
-use Rattle.combine.proofs.Chaining.{gave, waited, went_on}
+use Rattle.combine.proofs.Chaining.{gave_next, waited, went_on}
 use Rattle.combine.proofs.chain.ChainStream.poll_next.Goals as goal
 
 pub returns : goal.returns
@@ -9,10 +9,9 @@ returns g c =
     let p = waited g.S.Stream g.U.Stream c.args.self.now c.poll_next.new.self (answered_as Pending (search rules) c.poll_next.ensures.polled) in
     record { polled = p; parts = p.took }
 
-pub returns-in-Some : goal.returns-in-Some
-returns-in-Some g c =
-    let x = c.in-Some.item in
-    let p = gave g.S.Stream g.U.Stream c.args.self.now c.poll_next.new.self x (answered_as (Ready (Some x)) (search rules) c.poll_next.ensures.polled) in
+pub returns-in_default : goal.returns-in_default
+returns-in_default g c =
+    let p = gave_next g.S.Stream g.U.Stream c.args.self.now c.poll_next.new.self _ c.in_default.not-None (answered_as _ (search rules) c.poll_next.ensures.polled) in
     record { polled = p; parts = p.took }
 
 pub returns-in-None : goal.returns-in-None
