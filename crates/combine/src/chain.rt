@@ -17,7 +17,10 @@ pub struct Chain<S, U> {
 
 impl<S, U> Chain<S, U> {
     pub fn new(first: S, second: U) -> Chain<S, U>
-        ensures { (result.first.stream ≡ first) × (result.first.done ≡ false) × (result.second.stream ≡ second) × (result.second.done ≡ false) }
+        ensures { (result.first.stream ≡ first)
+            × (result.first.done ≡ false)
+            × (result.second.stream ≡ second)
+            × (result.second.done ≡ false) }
     {
         Chain {
             first: Fuse::new(first),
@@ -43,7 +46,8 @@ impl<S: Stream, U: Stream<Item = S::Item>> Stream for Chain<S, U> {
 
     // A stream that has answered None is not polled again: its Fuse then answers None by itself.
     fn poll_next(&mut self) -> Poll<Option<S::Item>>
-        ensures polled { Polled (chain_answers S.Stream U.Stream) (chain_pipeline S.Stream U.Stream) self.old result self.new }
+        ensures polled { Polled (chain_answers S.Stream U.Stream) (chain_pipeline S.Stream U.Stream) self.old
+            result self.new }
         ensures parts { ChainTook S.Stream U.Stream self.old (waits_in result) self.new }
     {
         match ready!(self.first.poll_next()) {

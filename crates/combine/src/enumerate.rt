@@ -40,9 +40,11 @@ impl<S: Stream> Stream for Enumerate<S> {
     ghost pipeline = { enumerate_pipeline S.Stream };
 
     fn poll_next(&mut self) -> Poll<Option<(u64, S::Item)>>
-        ensures polled { Polled (enumerate_answers S.Stream) (enumerate_pipeline S.Stream) self.old result self.new }
+        ensures polled { Polled (enumerate_answers S.Stream) (enumerate_pipeline S.Stream) self.old result
+            self.new }
         ensures stream { S.Stream.answers self.new.stream ≡ rest (S.Stream.answers self.old.stream) }
-        ensures number { self.new.i ≡ called (λ i _. next_number i) self.old.i (first (S.Stream.answers self.old.stream)) }
+        ensures number { self.new.i
+            ≡ called (λ i _. next_number i) self.old.i (first (S.Stream.answers self.old.stream)) }
     {
         // A match, since Option's `map` does not promise that a closure that it does not call leaves the number as it was.
         match ready!(self.stream.poll_next()) {

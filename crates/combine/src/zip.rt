@@ -52,7 +52,8 @@ where
 
     // Polls the first stream only while no item is kept, and the second only while one is.
     fn poll_next(&mut self) -> Poll<Option<(A::Item, B::Item)>>
-        ensures polled { Polled (zip_answers A.Stream B.Stream) (zip_pipeline A.Stream B.Stream) self.old result self.new }
+        ensures polled { Polled (zip_answers A.Stream B.Stream) (zip_pipeline A.Stream B.Stream) self.old result
+            self.new }
         ensures parts { ZipTook A.Stream B.Stream self.old (waits_in result) self.new }
     {
         if self.item_slot.is_none() {

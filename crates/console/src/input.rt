@@ -11,7 +11,8 @@ pub const INPUT_LEN: usize = 16384;
 // Reads until the buffer is full or the input ends, and answers what came.
 pub fn read_up_to<'a, R: Read>(reader: &mut R, buffer: &'a mut [u8]) -> io::Result<&'a [u8]>
     ensures fits { IfOk result (λ read. length read.now ≤ length buffer.old) }
-    ensures count { IfOk result (λ read. Gives (R.remaining reader.old) (R.remaining reader.new) (length read.now)) }
+    ensures count { IfOk result
+        (λ read. Gives (R.remaining reader.old) (R.remaining reader.new) (length read.now)) }
     ensures end { IfOk result (λ read. length read.now < length buffer.old → IsAtEnd (R.remaining reader.new)) }
 {
     let mut rest = &mut *buffer;

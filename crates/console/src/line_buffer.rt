@@ -5,8 +5,8 @@ use std::io::Write;
 // How many bytes are kept before they are written; a line of the programs is far shorter.
 const LINE_LEN: usize = 1024;
 
-// A writer behind a place for the bytes of a line, so that a line goes out in one write. No BufWriter, whose memory is the heap's and can
-// be refused.
+// A writer behind a place for the bytes of a line, so that a line goes out in one write. No BufWriter: its memory comes from the
+// heap and can be refused.
 #[derive(Drop)]
 pub struct LineBuffer<W> {
     writer: W,
@@ -55,7 +55,8 @@ impl<W: Write> LineBuffer<W> {
 
     // Writes what it kept.
     pub fn flush(&mut self) -> io::Result<()>
-        ensures sent { OnOk result (Appends (W.contents self.old.writer) (W.contents self.new.writer) (kept self.old)) }
+        ensures sent { OnOk result
+            (Appends (W.contents self.old.writer) (W.contents self.new.writer) (kept self.old)) }
         ensures empty { OnOk result (kept self.new ≡ []) }
     {
         self.writer.write_all(&self.line)?;

@@ -32,7 +32,8 @@ pub trait Consumer: Sized {
         first: &mut X,
         second: &mut Y,
     ) -> StepOf<Self>
-        ensures { Polled meaning Self.Below.Stream X.Sink Y.Sink self first.old second.old result first.new second.new };
+        ensures { Polled meaning Self.Below.Stream X.Sink Y.Sink self first.old second.old result
+            first.new second.new };
 }
 
 // What a poll of the consumer C answers.

@@ -20,7 +20,8 @@ pub fn run<C: Consumer, X: Sink<Item = C::First>, Y: Sink<Item = C::Second>>(
     second: &mut Y,
     polls: u64,
 ) -> Report<C, EndedOf<C, C::Output>, EndedOf<C, C::Error>>
-    ensures { Reported C.Consumer.meaning C.Below.Stream X.Sink Y.Sink consumer first.old second.old polls result first.new second.new }
+    ensures { Reported C.Consumer.meaning C.Below.Stream X.Sink Y.Sink consumer first.old second.old polls
+        result first.new second.new }
 {
     for waits in 0..polls {
         match consumer.poll(first, second) {

@@ -2,8 +2,8 @@ ghost use Rattle.std.specs.Prelude.{◌≡◌};
 ghost use Rattle.std.specs.Int.{from_bool};
 ghost use Rattle.consume.specs.Runs.{fulls_of};
 
-// What a poll of a consumer answers. The consumer comes back with a wait and with full; it is gone after done and fault. Four cases
-// and no Result: with full a poll has neither ended nor failed.
+// What a poll of a consumer answers. The consumer comes back with a wait and with full; it is gone after done and fault. Four
+// cases and no Result: with full a poll has neither ended nor failed.
 #[derive(Drop)]
 pub enum Step<C, D, E> {
     Wait(C),

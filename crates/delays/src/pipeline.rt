@@ -28,7 +28,9 @@ pub type Pipeline<'a> = Take<
 // Its list is the rule's; and if the source agrees with a list, it is built alike to a pipeline whose source has that list.
 pub fn pipeline<'a>(source: Script<'a>) -> Pipeline<'a>
     ensures list { whole.answers result ≡ summed (script_answers source.entry) }
-    ensures alike { (ys : List (Answer ℕ)) → Agree (λ a b. a ≡ b) (script_answers source.entry) ys → whole.pipeline.alike result (summed ys) }
+    ensures alike { (ys : List (Answer ℕ))
+        → Agree (λ a b. a ≡ b) (script_answers source.entry) ys
+        → whole.pipeline.alike result (summed ys) }
 {
     source
         .skip(1)

@@ -66,8 +66,10 @@ pub trait StreamExt: Stream {
     where
         Self: Sized,
         ensures parts { (result.stream ≡ self) × (result.f ≡ f) }
-        ensures list { map_answers Self.Stream F.Callback result ≡ mapped F.Callback.output F.Callback.next f (Self.Stream.answers self) }
-        ensures alike { AlikeByCallback Self.Stream self F.Callback f F.Callback.outputs.same ((map_pipeline Self.Stream F.Callback).alike result) (λ h. mapped gives onward h) }
+        ensures list { map_answers Self.Stream F.Callback result
+            ≡ mapped F.Callback.output F.Callback.next f (Self.Stream.answers self) }
+        ensures alike { AlikeByCallback Self.Stream self F.Callback f F.Callback.outputs.same
+            ((map_pipeline Self.Stream F.Callback).alike result) (λ h. mapped gives onward h) }
     {
         Map::new(self, f)
     }
@@ -77,8 +79,12 @@ pub trait StreamExt: Stream {
     where
         Self: Sized,
         ensures parts { (result.stream ≡ self) × (result.f ≡ f) }
-        ensures list { scan_answers Self.Stream F.Callback result ≡ mapped_while F.Callback.output F.Callback.next f (Self.Stream.answers self) }
-        ensures alike { AlikeByCallback Self.Stream self F.Callback f (Matching (insides F.Callback.outputs).same) ((scan_pipeline Self.Stream F.Callback).alike result) (λ h. mapped_while gives onward h) }
+        ensures list { scan_answers Self.Stream F.Callback result
+            ≡ mapped_while F.Callback.output F.Callback.next f (Self.Stream.answers self) }
+        ensures alike { AlikeByCallback Self.Stream self F.Callback f
+            (Matching (insides F.Callback.outputs).same)
+            ((scan_pipeline Self.Stream F.Callback).alike result)
+            (λ h. mapped_while gives onward h) }
     {
         Scan::new(self, f)
     }
@@ -91,8 +97,12 @@ pub trait StreamExt: Stream {
     where
         Self: Sized,
         ensures parts { (result.stream ≡ self) × (result.predicate ≡ predicate) }
-        ensures list { map_while_answers Self.Stream P.Callback result ≡ mapped_while P.Callback.output P.Callback.next predicate (Self.Stream.answers self) }
-        ensures alike { AlikeByCallback Self.Stream self P.Callback predicate (Matching (insides P.Callback.outputs).same) ((map_while_pipeline Self.Stream P.Callback).alike result) (λ h. mapped_while gives onward h) }
+        ensures list { map_while_answers Self.Stream P.Callback result
+            ≡ mapped_while P.Callback.output P.Callback.next predicate (Self.Stream.answers self) }
+        ensures alike { AlikeByCallback Self.Stream self P.Callback predicate
+            (Matching (insides P.Callback.outputs).same)
+            ((map_while_pipeline Self.Stream P.Callback).alike result)
+            (λ h. mapped_while gives onward h) }
     {
         MapWhile::new(self, predicate)
     }
@@ -105,8 +115,11 @@ pub trait StreamExt: Stream {
     where
         Self: Sized,
         ensures parts { (result.stream ≡ self) × (result.predicate ≡ predicate) }
-        ensures list { take_while_answers Self.Stream P.Callback result ≡ taken_while P.Callback.output P.Callback.next predicate (Self.Stream.answers self) }
-        ensures alike { AlikeByCallback Self.Stream self P.Callback predicate (λ b c. b ≡ c) ((take_while_pipeline Self.Stream P.Callback).alike result) (λ h. taken_while gives onward h) }
+        ensures list { take_while_answers Self.Stream P.Callback result
+            ≡ taken_while P.Callback.output P.Callback.next predicate (Self.Stream.answers self) }
+        ensures alike { AlikeByCallback Self.Stream self P.Callback predicate (λ b c. b ≡ c)
+            ((take_while_pipeline Self.Stream P.Callback).alike result)
+            (λ h. taken_while gives onward h) }
     {
         TakeWhile::new(self, predicate)
     }
@@ -116,8 +129,11 @@ pub trait StreamExt: Stream {
     where
         Self: Sized,
         ensures parts { (result.stream ≡ self) × (result.predicate ≡ predicate) }
-        ensures list { filter_answers Self.Stream P.Callback result ≡ filtered P.Callback.output P.Callback.next predicate (Self.Stream.answers self) }
-        ensures alike { AlikeByCallback Self.Stream self P.Callback predicate (λ b c. b ≡ c) ((filter_pipeline Self.Stream P.Callback).alike result) (λ h. filtered gives onward h) }
+        ensures list { filter_answers Self.Stream P.Callback result
+            ≡ filtered P.Callback.output P.Callback.next predicate (Self.Stream.answers self) }
+        ensures alike { AlikeByCallback Self.Stream self P.Callback predicate (λ b c. b ≡ c)
+            ((filter_pipeline Self.Stream P.Callback).alike result)
+            (λ h. filtered gives onward h) }
     {
         Filter::new(self, predicate)
     }
@@ -130,8 +146,12 @@ pub trait StreamExt: Stream {
     where
         Self: Sized,
         ensures parts { (result.stream ≡ self) × (result.f ≡ f) }
-        ensures list { filter_map_answers Self.Stream F.Callback result ≡ filter_mapped F.Callback.output F.Callback.next f (Self.Stream.answers self) }
-        ensures alike { AlikeByCallback Self.Stream self F.Callback f (Matching (insides F.Callback.outputs).same) ((filter_map_pipeline Self.Stream F.Callback).alike result) (λ h. filter_mapped gives onward h) }
+        ensures list { filter_map_answers Self.Stream F.Callback result
+            ≡ filter_mapped F.Callback.output F.Callback.next f (Self.Stream.answers self) }
+        ensures alike { AlikeByCallback Self.Stream self F.Callback f
+            (Matching (insides F.Callback.outputs).same)
+            ((filter_map_pipeline Self.Stream F.Callback).alike result)
+            (λ h. filter_mapped gives onward h) }
     {
         FilterMap::new(self, f)
     }
@@ -144,8 +164,12 @@ pub trait StreamExt: Stream {
     where
         Self: Sized,
         ensures parts { (result.stream ≡ self) × (result.predicate ≡ Some predicate) }
-        ensures list { skip_while_answers Self.Stream P.Callback result ≡ skipped_while P.Callback.output P.Callback.next (Some predicate) (Self.Stream.answers self) }
-        ensures alike { AlikeByCallback Self.Stream self P.Callback predicate (λ b c. b ≡ c) ((skip_while_pipeline Self.Stream P.Callback).alike result) (λ h. skipped_while gives onward (Some h)) }
+        ensures list { skip_while_answers Self.Stream P.Callback result
+            ≡ skipped_while P.Callback.output P.Callback.next (Some predicate)
+            (Self.Stream.answers self) }
+        ensures alike { AlikeByCallback Self.Stream self P.Callback predicate (λ b c. b ≡ c)
+            ((skip_while_pipeline Self.Stream P.Callback).alike result)
+            (λ h. skipped_while gives onward (Some h)) }
     {
         SkipWhile::new(self, predicate)
     }
@@ -187,9 +211,18 @@ pub trait StreamExt: Stream {
     fn step_by(self, step: u64) -> Result<StepBy<Self>, StepRefusal<Self>>
     where
         Self: Sized,
-        ensures parts { elim result [ Ok m ↦ (0 < step) × (m.stream ≡ self) × (m.step ≡ step) × (m.i ≡ 0) | Err e ↦ (step ≡ 0) × (e ≡ ZeroStep self) ] }
-        ensures list { elim result [ Ok m ↦ step_by_answers Self.Stream m ≡ stepped step 0 (Self.Stream.answers self) | Err e ↦ Unit {0} ] }
-        ensures alike { elim result [ Ok m ↦ AlikeBy Self.Stream self ((step_by_pipeline Self.Stream).alike m) (stepped step 0) | Err e ↦ Unit {0} ] }
+        ensures parts { elim result [
+          | Ok m ↦ (0 < step) × (m.stream ≡ self) × (m.step ≡ step) × (m.i ≡ 0)
+          | Err e ↦ (step ≡ 0) × (e ≡ ZeroStep self)
+        ] }
+        ensures list { elim result [
+          | Ok m ↦ step_by_answers Self.Stream m ≡ stepped step 0 (Self.Stream.answers self)
+          | Err e ↦ Unit {0}
+        ] }
+        ensures alike { elim result [
+          | Ok m ↦ AlikeBy Self.Stream self ((step_by_pipeline Self.Stream).alike m) (stepped step 0)
+          | Err e ↦ Unit {0}
+        ] }
     {
         StepBy::new(self, step)
     }
@@ -210,8 +243,10 @@ pub trait StreamExt: Stream {
     where
         Self: Sized,
         ensures parts { (result.item_slot ≡ None) × (result.first ≡ self) × (result.second ≡ other) }
-        ensures list { zip_answers Self.Stream U.Stream result ≡ zipped (Self.Stream.answers self) (U.Stream.answers other) }
-        ensures alike { AlikeByBoth Self.Stream U.Stream self other ((zip_pipeline Self.Stream U.Stream).alike result) zipped }
+        ensures list { zip_answers Self.Stream U.Stream result
+            ≡ zipped (Self.Stream.answers self) (U.Stream.answers other) }
+        ensures alike { AlikeByBoth Self.Stream U.Stream self other
+            ((zip_pipeline Self.Stream U.Stream).alike result) zipped }
     {
         Zip::new(self, other)
     }
@@ -220,9 +255,14 @@ pub trait StreamExt: Stream {
     fn chain<U: Stream<Item = Self::Item>>(self, other: U) -> Chain<Self, U>
     where
         Self: Sized,
-        ensures parts { (result.first.stream ≡ self) × (result.first.done ≡ false) × (result.second.stream ≡ other) × (result.second.done ≡ false) }
-        ensures list { chain_answers Self.Stream U.Stream result ≡ chained (Self.Stream.answers self) (U.Stream.answers other) }
-        ensures alike { ChainsAlike Self.Stream U.Stream self other ((chain_pipeline Self.Stream U.Stream).alike result) }
+        ensures parts { (result.first.stream ≡ self)
+            × (result.first.done ≡ false)
+            × (result.second.stream ≡ other)
+            × (result.second.done ≡ false) }
+        ensures list { chain_answers Self.Stream U.Stream result
+            ≡ chained (Self.Stream.answers self) (U.Stream.answers other) }
+        ensures alike { ChainsAlike Self.Stream U.Stream self other
+            ((chain_pipeline Self.Stream U.Stream).alike result) }
     {
         Chain::new(self, other)
     }
@@ -235,8 +275,13 @@ pub trait StreamExt: Stream {
     where
         Self: Sized,
         ensures parts { (result.stream ≡ self) × (result.future ≡ None) × (result.f ≡ f) }
-        ensures list { then_answers Self.Stream F.Callback Fut.Future result ≡ thened F.Callback.output F.Callback.next Fut.Future.waits Fut.Future.output f (Self.Stream.answers self) }
-        ensures alike { AlikeByCallback Self.Stream self F.Callback f (SameOutput Self.Stream F.Callback Fut.Future) ((then_pipeline Self.Stream F.Callback Fut.Future).alike result) (thened gives onward (λ v. v.0) (λ v. v.1)) }
+        ensures list { then_answers Self.Stream F.Callback Fut.Future result
+            ≡ thened F.Callback.output F.Callback.next Fut.Future.waits Fut.Future.output f
+            (Self.Stream.answers self) }
+        ensures alike { AlikeByCallback Self.Stream self F.Callback f
+            (SameOutput Self.Stream F.Callback Fut.Future)
+            ((then_pipeline Self.Stream F.Callback Fut.Future).alike result)
+            (thened gives onward (λ v. v.0) (λ v. v.1)) }
     {
         Then::new(self, f)
     }
@@ -249,8 +294,11 @@ pub trait StreamExt: Stream {
     where
         Self: Sized,
         ensures parts { (result.stream.stream ≡ self) × (result.stream.f ≡ f) × (result.inner_stream ≡ None) }
-        ensures list { flat_map_answers Self.Stream F.Callback U.Stream result ≡ flattened U.Stream.answers (mapped F.Callback.output F.Callback.next f (Self.Stream.answers self)) }
-        ensures alike { FlatMapsAlike Self.Stream self F.Callback f U.Stream ((flat_map_pipeline Self.Stream F.Callback U.Stream).alike result) }
+        ensures list { flat_map_answers Self.Stream F.Callback U.Stream result
+            ≡ flattened U.Stream.answers
+            (mapped F.Callback.output F.Callback.next f (Self.Stream.answers self)) }
+        ensures alike { FlatMapsAlike Self.Stream self F.Callback f U.Stream
+            ((flat_map_pipeline Self.Stream F.Callback U.Stream).alike result) }
     {
         FlatMap::new(self, f)
     }
@@ -261,8 +309,10 @@ pub trait StreamExt: Stream {
         Self: Sized,
         Self::Item: Stream,
         ensures parts { (result.stream ≡ self) × (result.inner_stream ≡ None) }
-        ensures list { flatten_answers Self.Stream Self.Item.Stream result ≡ flattened Self.Item.Stream.answers (Self.Stream.answers self) }
-        ensures alike { FlattensAlike Self.Stream Self.Item.Stream self ((flatten_pipeline Self.Stream Self.Item.Stream).alike result) }
+        ensures list { flatten_answers Self.Stream Self.Item.Stream result
+            ≡ flattened Self.Item.Stream.answers (Self.Stream.answers self) }
+        ensures alike { FlattensAlike Self.Stream Self.Item.Stream self
+            ((flatten_pipeline Self.Stream Self.Item.Stream).alike result) }
     {
         Flatten::new(self)
     }

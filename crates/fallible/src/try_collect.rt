@@ -73,7 +73,8 @@ fn read_on<T, E, S: Stream<Item = Result<T, E>>, X: Sink<Item = T>, Y: Sink<Item
     first: &mut X,
     second: &mut Y,
 ) -> StepOf<TryCollectFuture<S, T>>
-    ensures { Polled try_collects S.Stream X.Sink Y.Sink (record { stream = stream; kept = None }) first.old second.old result first.new second.new }
+    ensures { Polled try_collects S.Stream X.Sink Y.Sink (record { stream = stream; kept = None })
+        first.old second.old result first.new second.new }
 {
     loop {
         match stream.poll_next() {

@@ -3,7 +3,8 @@ ghost use Rattle.gateway.specs.Lines.{Said, says};
 use crate::refusal::InputRefusal;
 use reading::fault::Fault;
 
-// How a poll ended, as it is printed. No Step, which holds the consumer and is of another crate, so that it could have no Display here.
+// How a poll ended, as it is printed. No Step: that holds the consumer, and is of another crate, so that it could have no
+// Display here.
 #[derive(Clone, Copy)]
 pub enum End {
     Wait,
@@ -23,8 +24,8 @@ pub enum Line<'a> {
     Refused(InputRefusal),
 }
 
-// Something that prints lines, one after another: text, or whatever a caller keeps. No closure, since `report` would have to require
-// that it may be called.
+// Something that prints lines, one after another: text, or whatever a caller keeps. No closure, since `report` would have to
+// require that it may be called.
 pub trait Printer {
     // That it prints a line, by what the line says.
     ghost prints: { Self → Said → Self → Type 0 };

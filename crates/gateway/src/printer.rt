@@ -49,7 +49,10 @@ impl<W: fmt::Write> Printer for TextPrinter<W> {
 
 // Writes all lines for an input, and says whether they could be written.
 pub fn write_report<W: fmt::Write>(input: &[u8], text: W) -> (W, fmt::Result)
-    ensures { is_ok result.1 ≡ true → (ls : List Said) × Reports input.now ls × WritesInCalls W.Write.write_str_gives text (lines_text ls) result.0 }
+    ensures { is_ok result.1 ≡ true
+        → (ls : List Said)
+        × Reports input.now ls
+        × WritesInCalls W.Write.write_str_gives text (lines_text ls) result.0 }
 {
     let mut printer = TextPrinter::new(text);
     report(input, &mut printer);

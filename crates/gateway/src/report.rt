@@ -52,7 +52,12 @@ fn print_polls<S: Stream<Item = Result<i32, Fault>> + Drop, P: Printer>(stream: 
 
 // How a poll ended, and the consumer if it came back.
 fn ending<C, D: Drop, S: Drop>(step: Step<C, D, Ended<Fault, S, ()>>) -> (End, Option<C>)
-    ensures { elim step [ Step.Wait c ↦ result ≡ (End.Wait, Some c) | Step.Full c ↦ result ≡ (End.Full, Some c) | Step.Done d ↦ result ≡ (End.Done, None) | Step.Fault d ↦ result ≡ (End.Fault d.value, None) ] }
+    ensures { elim step [
+      | Step.Wait c ↦ result ≡ (End.Wait, Some c)
+      | Step.Full c ↦ result ≡ (End.Full, Some c)
+      | Step.Done d ↦ result ≡ (End.Done, None)
+      | Step.Fault d ↦ result ≡ (End.Fault d.value, None)
+    ] }
 {
     match step {
         Step::Wait(next) => (End::Wait, Some(next)),

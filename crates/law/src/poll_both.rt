@@ -13,7 +13,8 @@ pub fn poll_both<P: Stream, Q: Stream, V: Callback<Input = Shown<P::Item, Q::Ite
     start: Turn,
     polls: u64,
 ) -> Turn
-    ensures { PolledLawfully P.Stream Q.Stream V.Callback p.old q.old viewer.old start polls p.new q.new viewer.new result }
+    ensures { PolledLawfully P.Stream Q.Stream V.Callback p.old q.old viewer.old start polls p.new q.new
+        viewer.new result }
 {
     let mut turn = start;
     for _ in 0..polls {

@@ -44,7 +44,8 @@ where
 
     fn poll_next(&mut self) -> Poll<Option<S::Item>>
         ensures polled { Polled (skip_answers S.Stream) (skip_pipeline S.Stream) self.old result self.new }
-        ensures parts { (self.new.n, S.Stream.answers self.new.stream) ≡ read_past skips fewer self.old.n (S.Stream.answers self.old.stream) }
+        ensures parts { (self.new.n, S.Stream.answers self.new.stream)
+            ≡ read_past skips fewer self.old.n (S.Stream.answers self.old.stream) }
     {
         loop {
             match ready!(self.stream.poll_next()) {

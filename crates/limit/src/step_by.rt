@@ -19,7 +19,10 @@ pub struct StepBy<S> {
 impl<S> StepBy<S> {
     // A step of 0 is refused, and the stream comes back as it was.
     pub fn new(stream: S, step: u64) -> Result<StepBy<S>, StepRefusal<S>>
-        ensures { elim result [ Ok m ↦ (0 < step) × (m.stream ≡ stream) × (m.step ≡ step) × (m.i ≡ 0) | Err e ↦ (step ≡ 0) × (e ≡ ZeroStep stream) ] }
+        ensures { elim result [
+          | Ok m ↦ (0 < step) × (m.stream ≡ stream) × (m.step ≡ step) × (m.i ≡ 0)
+          | Err e ↦ (step ≡ 0) × (e ≡ ZeroStep stream)
+        ] }
     {
         if step == 0 {
             return Err(StepRefusal::ZeroStep(stream));
@@ -54,7 +57,9 @@ where
 
     fn poll_next(&mut self) -> Poll<Option<S::Item>>
         ensures polled { Polled (step_by_answers S.Stream) (step_by_pipeline S.Stream) self.old result self.new }
-        ensures parts { ((self.new.step, self.new.i), S.Stream.answers self.new.stream) ≡ read_past steps counts_down (self.old.step, self.old.i) (S.Stream.answers self.old.stream) }
+        ensures parts { ((self.new.step, self.new.i), S.Stream.answers self.new.stream)
+            ≡ read_past steps counts_down (self.old.step, self.old.i)
+            (S.Stream.answers self.old.stream) }
     {
         loop {
             match ready!(self.stream.poll_next()) {

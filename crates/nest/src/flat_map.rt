@@ -29,7 +29,9 @@ impl<S, U, F> FlatMap<S, U, F> {
 
     // The stream, the callback and the held inner stream, if any, as they are now.
     pub fn into_parts(self) -> (S, F, Option<U>)
-        ensures { (result.0 ≡ self.stream.stream) × (result.1 ≡ self.stream.f) × (result.2 ≡ self.inner_stream) }
+        ensures { (result.0 ≡ self.stream.stream)
+            × (result.1 ≡ self.stream.f)
+            × (result.2 ≡ self.inner_stream) }
     {
         let FlatMap {
             stream,
@@ -49,7 +51,8 @@ impl<S: Stream, U: Stream + Drop, F: Callback<Input = S::Item, Output = U>> Stre
     ghost pipeline = { flat_map_pipeline S.Stream F.Callback U.Stream };
 
     fn poll_next(&mut self) -> Poll<Option<U::Item>>
-        ensures polled { Polled (flat_map_answers S.Stream F.Callback U.Stream) (flat_map_pipeline S.Stream F.Callback U.Stream) self.old result self.new }
+        ensures polled { Polled (flat_map_answers S.Stream F.Callback U.Stream)
+            (flat_map_pipeline S.Stream F.Callback U.Stream) self.old result self.new }
         ensures parts { FlatMapTook S.Stream F.Callback U.Stream self.old (waits_in result) self.new }
     {
         poll_inner(&mut self.stream, &mut self.inner_stream)

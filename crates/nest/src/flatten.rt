@@ -45,7 +45,8 @@ impl<S: Stream<Item = U>, U: Stream + Drop> Stream for Flatten<S> {
     ghost pipeline = { flatten_pipeline S.Stream U.Stream };
 
     fn poll_next(&mut self) -> Poll<Option<U::Item>>
-        ensures polled { Polled (flatten_answers S.Stream U.Stream) (flatten_pipeline S.Stream U.Stream) self.old result self.new }
+        ensures polled { Polled (flatten_answers S.Stream U.Stream) (flatten_pipeline S.Stream U.Stream) self.old
+            result self.new }
         ensures parts { FlattenTook S.Stream U.Stream self.old (waits_in result) self.new }
     {
         poll_inner(&mut self.stream, &mut self.inner_stream)

@@ -10,7 +10,8 @@ pub fn poll_inner<S: Stream<Item = U>, U: Stream + Drop>(
     stream: &mut S,
     inner_stream: &mut Option<U>,
 ) -> Poll<Option<U::Item>>
-    ensures polled { Polled (pair_answers S.Stream U.Stream) (pair_pipeline S.Stream U.Stream) (stream.old, inner_stream.old) result (stream.new, inner_stream.new) }
+    ensures polled { Polled (pair_answers S.Stream U.Stream) (pair_pipeline S.Stream U.Stream)
+        (stream.old, inner_stream.old) result (stream.new, inner_stream.new) }
 {
     loop {
         if let Some(inner) = inner_stream {

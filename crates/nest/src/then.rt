@@ -48,7 +48,8 @@ impl<S: Stream, F: Callback<Input = S::Item, Output = Fut>, Fut: Future + Drop> 
 
     // Polls the stream only while no future is held, and then the future.
     fn poll_next(&mut self) -> Poll<Option<Fut::Output>>
-        ensures polled { Polled (then_answers S.Stream F.Callback Fut.Future) (then_pipeline S.Stream F.Callback Fut.Future) self.old result self.new }
+        ensures polled { Polled (then_answers S.Stream F.Callback Fut.Future)
+            (then_pipeline S.Stream F.Callback Fut.Future) self.old result self.new }
         ensures parts { ThenTook S.Stream F.Callback Fut.Future self.old (waits_in result) self.new }
     {
         loop {

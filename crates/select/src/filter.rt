@@ -43,8 +43,11 @@ where
     ghost pipeline = { filter_pipeline S.Stream P.Callback };
 
     fn poll_next(&mut self) -> Poll<Option<S::Item>>
-        ensures polled { Polled (filter_answers S.Stream P.Callback) (filter_pipeline S.Stream P.Callback) self.old result self.new }
-        ensures parts { (self.new.predicate, S.Stream.answers self.new.stream) ≡ read_past (filters P.Callback.output) P.Callback.next self.old.predicate (S.Stream.answers self.old.stream) }
+        ensures polled { Polled (filter_answers S.Stream P.Callback) (filter_pipeline S.Stream P.Callback)
+            self.old result self.new }
+        ensures parts { (self.new.predicate, S.Stream.answers self.new.stream)
+            ≡ read_past (filters P.Callback.output) P.Callback.next self.old.predicate
+            (S.Stream.answers self.old.stream) }
     {
         loop {
             match ready!(self.stream.poll_next()) {

@@ -40,8 +40,11 @@ impl<S: Stream, F: Callback<Input = S::Item, Output = Option<T>>, T> Stream for 
     ghost pipeline = { filter_map_pipeline S.Stream F.Callback };
 
     fn poll_next(&mut self) -> Poll<Option<T>>
-        ensures polled { Polled (filter_map_answers S.Stream F.Callback) (filter_map_pipeline S.Stream F.Callback) self.old result self.new }
-        ensures parts { (self.new.f, S.Stream.answers self.new.stream) ≡ read_past (filter_maps F.Callback.output) F.Callback.next self.old.f (S.Stream.answers self.old.stream) }
+        ensures polled { Polled (filter_map_answers S.Stream F.Callback)
+            (filter_map_pipeline S.Stream F.Callback) self.old result self.new }
+        ensures parts { (self.new.f, S.Stream.answers self.new.stream)
+            ≡ read_past (filter_maps F.Callback.output) F.Callback.next self.old.f
+            (S.Stream.answers self.old.stream) }
     {
         loop {
             match ready!(self.stream.poll_next()) {

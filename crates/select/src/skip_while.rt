@@ -47,8 +47,11 @@ where
     ghost pipeline = { skip_while_pipeline S.Stream P.Callback };
 
     fn poll_next(&mut self) -> Poll<Option<S::Item>>
-        ensures polled { Polled (skip_while_answers S.Stream P.Callback) (skip_while_pipeline S.Stream P.Callback) self.old result self.new }
-        ensures parts { (self.new.predicate, S.Stream.answers self.new.stream) ≡ read_past (skips_while P.Callback.output) (let_go P.Callback.output P.Callback.next) self.old.predicate (S.Stream.answers self.old.stream) }
+        ensures polled { Polled (skip_while_answers S.Stream P.Callback)
+            (skip_while_pipeline S.Stream P.Callback) self.old result self.new }
+        ensures parts { (self.new.predicate, S.Stream.answers self.new.stream)
+            ≡ read_past (skips_while P.Callback.output) (let_go P.Callback.output P.Callback.next)
+            self.old.predicate (S.Stream.answers self.old.stream) }
     {
         loop {
             match ready!(self.stream.poll_next()) {

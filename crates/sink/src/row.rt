@@ -57,14 +57,18 @@ impl<'a, T> RowSink<'a, T> {
 
     // An empty sink with a place for each element of the row.
     pub fn new(row: &'a mut [T]) -> RowSink<'a, T>
-        ensures { (result.len ≡ 0) × (result.row.now ≡ row.old) × (result.row.ghost_name ≡ row.entry.ghost_name) }
+        ensures { (result.len ≡ 0)
+            × (result.row.now ≡ row.old)
+            × (result.row.ghost_name ≡ row.entry.ghost_name) }
     {
         RowSink { row, len: 0 }
     }
 
     // Frees all places; the row's elements stay until they are written over.
     pub fn empty(&mut self)
-        ensures { (self.new.len ≡ 0) × (self.new.row.now ≡ self.old.row.now) × (self.new.row.ghost_name ≡ self.old.row.ghost_name) }
+        ensures { (self.new.len ≡ 0)
+            × (self.new.row.now ≡ self.old.row.now)
+            × (self.new.row.ghost_name ≡ self.old.row.ghost_name) }
     {
         self.len = 0;
     }
@@ -78,7 +82,9 @@ impl<'a, T> RowSink<'a, T> {
 
     // The row back, as the puts have left it, and how many of its elements are items.
     pub fn into_parts(self) -> (&'a mut [T], usize)
-        ensures { (result.0.now ≡ self.entry.row.now) × (result.0.ghost_name ≡ self.entry.row.ghost_name) × (result.1 ≡ self.entry.len) }
+        ensures { (result.0.now ≡ self.entry.row.now)
+            × (result.0.ghost_name ≡ self.entry.row.ghost_name)
+            × (result.1 ≡ self.entry.len) }
     {
         let RowSink { row, len } = self;
         (row, len)

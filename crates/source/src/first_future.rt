@@ -51,7 +51,8 @@ where
 
     // Polls the stream only while the output is still to come.
     fn poll(&mut self) -> Poll<Option<S::Item>>
-        ensures polled { FuturePolled (first_future_waits S.Stream) (first_future_output S.Stream) (own_waits (first_future_waits S.Stream)) self.old result self.new }
+        ensures polled { FuturePolled (first_future_waits S.Stream) (first_future_output S.Stream)
+            (own_waits (first_future_waits S.Stream)) self.old result self.new }
         ensures answer { self.new.answer ≡ result }
         ensures stream { PolledAtWait S.Stream self.old.answer self.old.stream result self.new.stream }
     {

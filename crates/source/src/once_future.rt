@@ -40,7 +40,8 @@ impl<F: Future + Drop> Stream for OnceFuture<F> {
 
     // Drops the future with its output, so that it is not polled again.
     fn poll_next(&mut self) -> Poll<Option<F::Output>>
-        ensures polled { Polled (once_future_answers F.Future) (once_future_pipeline F.Future) self.old result self.new }
+        ensures polled { Polled (once_future_answers F.Future) (once_future_pipeline F.Future) self.old result
+            self.new }
         ensures future { SlotPolled F.Future self.old.future result self.new.future }
     {
         match &mut self.future {

@@ -1,8 +1,8 @@
 ghost use Rattle.std.specs.Prelude.{◌≡◌, not};
 ghost use Rattle.stream.specs.Answers.{ready};
 
-// What a poll answers: a value, or a wait. An enum as Rust's core has it: the kit's is not Copy, which FirstFuture needs, and in an
-// Option of an Option a wait and an end would read alike.
+// What a poll answers: a value, or a wait. An enum as Rust's core has it: the kit's is not Copy, which FirstFuture needs, and in
+// an Option of an Option a wait and an end would read alike.
 #[derive(Clone, Copy, Debug, PartialEq)]
 pub enum Poll<T> {
     Ready(T),

@@ -40,9 +40,11 @@ impl<S: Stream, F: Callback<Input = S::Item>> Stream for Map<S, F> {
     ghost pipeline = { map_pipeline S.Stream F.Callback };
 
     fn poll_next(&mut self) -> Poll<Option<F::Output>>
-        ensures polled { Polled (map_answers S.Stream F.Callback) (map_pipeline S.Stream F.Callback) self.old result self.new }
+        ensures polled { Polled (map_answers S.Stream F.Callback) (map_pipeline S.Stream F.Callback) self.old
+            result self.new }
         ensures stream { S.Stream.answers self.new.stream ≡ rest (S.Stream.answers self.old.stream) }
-        ensures callback { self.new.f ≡ called F.Callback.next self.old.f (first (S.Stream.answers self.old.stream)) }
+        ensures callback { self.new.f
+            ≡ called F.Callback.next self.old.f (first (S.Stream.answers self.old.stream)) }
     {
         // A match, since Option's `map` does not promise that a closure that it does not call leaves the callback as it was.
         match ready!(self.stream.poll_next()) {

@@ -41,9 +41,11 @@ impl<S: Stream, F: Callback<Input = S::Item, Output = Option<T>>, T> Stream for 
     ghost pipeline = { scan_pipeline S.Stream F.Callback };
 
     fn poll_next(&mut self) -> Poll<Option<T>>
-        ensures polled { Polled (scan_answers S.Stream F.Callback) (scan_pipeline S.Stream F.Callback) self.old result self.new }
+        ensures polled { Polled (scan_answers S.Stream F.Callback) (scan_pipeline S.Stream F.Callback) self.old
+            result self.new }
         ensures stream { S.Stream.answers self.new.stream ≡ rest (S.Stream.answers self.old.stream) }
-        ensures callback { self.new.f ≡ called F.Callback.next self.old.f (first (S.Stream.answers self.old.stream)) }
+        ensures callback { self.new.f
+            ≡ called F.Callback.next self.old.f (first (S.Stream.answers self.old.stream)) }
     {
         // A match, since Option's `and_then` does not promise that a closure that it does not call leaves the callback as it was.
         match ready!(self.stream.poll_next()) {

@@ -43,9 +43,11 @@ where
     ghost pipeline = { take_while_pipeline S.Stream P.Callback };
 
     fn poll_next(&mut self) -> Poll<Option<S::Item>>
-        ensures polled { Polled (take_while_answers S.Stream P.Callback) (take_while_pipeline S.Stream P.Callback) self.old result self.new }
+        ensures polled { Polled (take_while_answers S.Stream P.Callback)
+            (take_while_pipeline S.Stream P.Callback) self.old result self.new }
         ensures stream { S.Stream.answers self.new.stream ≡ rest (S.Stream.answers self.old.stream) }
-        ensures callback { self.new.predicate ≡ called P.Callback.next self.old.predicate (first (S.Stream.answers self.old.stream)) }
+        ensures callback { self.new.predicate
+            ≡ called P.Callback.next self.old.predicate (first (S.Stream.answers self.old.stream)) }
     {
         // A match, since Option's `filter` does not promise that a closure that it does not call leaves the callback as it was.
         match ready!(self.stream.poll_next()) {
