@@ -17,6 +17,7 @@ fn main(rt: HostRuntime) -> io::Result<()> {
     while let [high, low, inputs @ ..] = rest {
         let length = usize::from(u16::from_be_bytes([*high, *low])).min(inputs.len());
         let (input, next) = inputs.split_at(length);
+        // As `watts` does with its one input; two lines are no function.
         let (output, written) = write_report(input, Output::new(&rt));
         output.finish(written)?;
         println!(rt)?;

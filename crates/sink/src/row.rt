@@ -55,7 +55,8 @@ impl<'a, T: Copy> Sink for RowSink<'a, T> {
 impl<'a, T> RowSink<'a, T> {
     ghost use Rattle.std.specs.Prelude.{take};
 
-    // An empty sink with a place for each element of the row.
+    // An empty sink with a place for each element of the row. That the row is the same one is said in full here and below,
+    // since each contract speaks of another value.
     pub fn new(row: &'a mut [T]) -> RowSink<'a, T>
         ensures { (result.len ≡ 0)
             × (result.row.now ≡ row.old)

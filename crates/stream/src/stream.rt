@@ -16,7 +16,7 @@ pub trait Stream {
     ghost pipeline: { Pipeline answers };
 
     // Answers the first of its list, and leaves the rest. An implementation that promises more repeats this clause: its own
-    // stand in place of the trait's.
+    // stand in place of the trait's. Where it has a clause `parts`, that says by name what `took` of its pipeline says.
     fn poll_next(&mut self) -> Poll<Option<Self::Item>>
         ensures polled { Polled answers pipeline self.old result self.new };
 }
