@@ -1,2 +1,1 @@
 pub mod LineBuffers
-pub mod Readers

@@ -1,6 +1,5 @@
 ghost use Rattle.std.specs.Prelude.{◌<◌, ◌≤◌, length, IfOk};
-ghost use Rattle.std.specs.Io.KnownBytes.{IsAtEnd};
-ghost use Rattle.console.specs.Readers.{Gives};
+ghost use Rattle.std.specs.Io.KnownBytes.{Consumes, IsAtEnd};
 
 use std::io;
 use std::io::Read;
@@ -11,20 +10,19 @@ pub const INPUT_LEN: usize = 16384;
 // Reads until the buffer is full or the input ends, and answers what came.
 pub fn read_up_to<'a, R: Read>(reader: &mut R, buffer: &'a mut [u8]) -> io::Result<&'a [u8]>
     ensures fits { IfOk result (λ read. length read.now ≤ length buffer.old) }
-    ensures count { IfOk result
-        (λ read. Gives (R.remaining reader.old) (R.remaining reader.new) (length read.now)) }
+    ensures bytes { IfOk result (λ read. Consumes (R.remaining reader.old) (R.remaining reader.new) read.now) }
     ensures end { IfOk result (λ read. length read.now < length buffer.old → IsAtEnd (R.remaining reader.new)) }
 {
-    let mut rest = &mut *buffer;
-    while !rest.is_empty() {
-        let count = reader.read(rest)?;
+    let mut len = 0;
+    // An index, since of a rest that gets shorter the proof keeps the length alone.
+    while len < buffer.len() {
+        let count = reader.read(&mut buffer[len..])?;
         if count == 0 {
             break;
         }
-        rest = &mut rest[count..];
+        len += count;
     }
-    let left = rest.len();
-    Ok(&buffer[..buffer.len() - left])
+    Ok(&buffer[..len])
 }
 
 #[cfg(test)]
