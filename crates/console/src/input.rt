@@ -14,7 +14,7 @@ pub fn read_up_to<'a, R: Read>(reader: &mut R, buffer: &'a mut [u8]) -> io::Resu
     ensures end { IfOk result (λ read. length read.now < length buffer.old → IsAtEnd (R.remaining reader.new)) }
 {
     let mut len = 0;
-    // An index, since of a rest that gets shorter the proof keeps the length alone.
+    // An index, since of a rest that gets shorter the proof keeps the length alone; so the contract says which bytes were read.
     while len < buffer.len() {
         let count = reader.read(&mut buffer[len..])?;
         if count == 0 {

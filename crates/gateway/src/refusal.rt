@@ -12,7 +12,7 @@ pub enum InputRefusal {
     Script(ScriptRefusal),
 }
 
-// By hand, since the contract of `open` says which refusal a `?` makes of a script's.
+// By hand, since the contract of `open` says which refusal a `?` makes of a script's, and a derived `From` has no clause.
 impl From<ScriptRefusal> for InputRefusal {
     ghost from_gives = { λ refusal r. r ≡ Script refusal };
 
@@ -22,7 +22,8 @@ impl From<ScriptRefusal> for InputRefusal {
 }
 
 impl InputRefusal {
-    // Its number in the list of refusals. No trait has it, since nothing takes refusals of more than one kind.
+    // Its number in the list of refusals, by which refusals are known. No trait has it, since nothing takes refusals of more
+    // than one kind.
     pub fn number(self) -> u8
         ensures { result ≡ (told self).number }
     {

@@ -31,6 +31,7 @@ fn print_polls<S: Stream<Item = Result<i32, Fault>> + Drop, P: Printer>(stream: 
     requires { length (S.Stream.answers stream) < 2 ^ 63 }
     ensures { Printed P.Printer.prints printer.old (lines_from 1 [] (S.Stream.answers stream)) printer.new }
 {
+    // An array, since no heap is asked for.
     let mut row = [0i32; PLACES];
     let mut sink = RowSink::new(&mut row);
     let mut unused = RowSink::new(&mut []);

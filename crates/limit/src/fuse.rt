@@ -11,7 +11,8 @@ use stream::stream::Stream;
 #[derive(Drop)]
 pub struct Fuse<S> {
     stream: S,
-    // A flag and no Option round the stream, since the stream is handed back also once it has ended.
+    // A flag and no Option round the stream: these are the fields of the source, and the stream is handed back also once it has
+    // ended.
     done: bool,
 }
 

@@ -1,5 +1,5 @@
 // Adapters over streams of futures and streams of streams. Flatten and FlatMap hold alike fields and poll by one function;
-// they stay two types with the fields of their source.
+// they stay two types: a port keeps the names and fields of its source, and each type is what carries its rule.
 #![tactic(auto)]
 
 pub mod flat_map;

@@ -11,7 +11,8 @@ pub enum Fault {
 }
 
 impl Fault {
-    // Its number in the list of refusals. No trait has it, since nothing takes refusals of more than one kind.
+    // Its number in the list of refusals, by which refusals are known. No trait has it, since nothing takes refusals of more
+    // than one kind.
     pub fn number(self) -> u8
         ensures { result ≡ (told self).number }
     {

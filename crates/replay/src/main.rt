@@ -15,6 +15,7 @@ fn main(rt: HostRuntime) -> io::Result<()> {
     let mut buffer = [0u8; LIST_LEN];
     let mut rest = read_up_to(&mut rt.stdin(), &mut buffer)?;
     while let [high, low, inputs @ ..] = rest {
+        // As the gateway reads a header; a line is no function.
         let length = usize::from(u16::from_be_bytes([*high, *low])).min(inputs.len());
         let (input, next) = inputs.split_at(length);
         // As `watts` does with its one input; two lines are no function.

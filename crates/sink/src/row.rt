@@ -8,7 +8,7 @@ use crate::sink::Sink;
 pub struct RowSink<'a, T> {
     // The places are the caller's, since the library takes no memory of its own.
     row: &'a mut [T],
-    // How many of the row's first elements are items.
+    // How many of the row's first elements are items: one more with each put, and handed back by `into_parts`.
     len: usize,
     ghost fits: { len ≤ length row.now },
 }

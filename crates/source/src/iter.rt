@@ -7,7 +7,8 @@ use stream::poll::Poll;
 use stream::stream::Stream;
 
 // Gives the items of a lent row in order. It keeps the whole row and a place in it, since into_parts hands both back: a
-// slice's own iterator, or a row that is cut shorter at each poll, has neither, and a filter over either took twice the time.
+// slice's own iterator, or a row that is cut shorter at each poll, has neither, and a sum over a filter of either took twice
+// the time.
 #[derive(Drop)]
 pub struct Iter<'a, T> {
     row: &'a [T],

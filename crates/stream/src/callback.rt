@@ -2,7 +2,8 @@ ghost use Rattle.std.specs.Prelude.{◌≡◌};
 ghost use Rattle.stream.specs.Views.{View};
 
 // A function that may hold a state: from what it holds and one input to one output and what it holds next. A trait and no
-// closure, since list rules need those two as functions, and a closure's contract has relations.
+// closure: one interface with named input and output types serves all adapters, and list rules need those two as functions,
+// where a closure's contract has relations.
 pub trait Callback {
     type Input;
 

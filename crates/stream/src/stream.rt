@@ -16,7 +16,8 @@ pub trait Stream {
     ghost pipeline: { Pipeline answers };
 
     // Answers the first of its list, and leaves the rest. An implementation that promises more repeats this clause: its own
-    // stand in place of the trait's. Where it has a clause `parts`, that says by name what `took` of its pipeline says.
+    // stand in place of the trait's. A clause `parts` by a relation (`ZipTook` and the like) says by name what `took` says; one
+    // by `read_past` says more, what the fields hold afterwards.
     fn poll_next(&mut self) -> Poll<Option<Self::Item>>
         ensures polled { Polled answers pipeline self.old result self.new };
 }
