@@ -4,3 +4,5 @@
 pub mod refusal;
 pub mod row;
 pub mod sink;
+#[cfg(test)]
+mod tests;

@@ -1,16 +1,17 @@
-ghost use Rattle.std.specs.Prelude.{◌≡◌, ◌<◌, ◌≤◌, length, slice_set};
+ghost use Rattle.std.specs.Prelude.{◌≡◌, ◌<◌, length, slice_set};
 
 use crate::refusal::PutRefusal;
 use crate::sink::Sink;
 
-// A sink that keeps items in order in a row that its caller lends.
+// A sink that keeps items in order in a row that its caller lends. That the items fit the row is no ghost field: the toolchain does
+// not cover callers that take a struct with one beside its `&mut` by value, to put into it, hand it on or take it apart. So each
+// method is right for every length.
 #[derive(Drop)]
 pub struct RowSink<'a, T> {
     // The places are the caller's, since the library takes no memory of its own.
     row: &'a mut [T],
     // How many of the row's first elements are items: one more with each put, and handed back by `into_parts`.
     len: usize,
-    ghost fits: { len ≤ length row.now },
 }
 
 impl<'a, T: Copy> Sink for RowSink<'a, T> {
@@ -39,7 +40,7 @@ impl<'a, T: Copy> Sink for RowSink<'a, T> {
         ensures origin { row_origin self.new ≡ row_origin self.old }
         ensures row { RowWritten self.old item result self.new }
     {
-        if self.len == self.row.len() {
+        if self.len >= self.row.len() {
             return Err(PutRefusal::Full(item));
         }
         store(self.row, self.len, item);
@@ -48,7 +49,7 @@ impl<'a, T: Copy> Sink for RowSink<'a, T> {
     }
 
     fn places(&self) -> u64 {
-        (self.row.len() - self.len) as u64
+        self.row.len().saturating_sub(self.len) as u64
     }
 }
 
@@ -78,7 +79,11 @@ impl<'a, T> RowSink<'a, T> {
     pub fn items(&self) -> &[T]
         ensures { result.now ≡ take self.now.len self.now.row.now }
     {
-        &self.row[..self.len]
+        if self.len < self.row.len() {
+            &self.row[..self.len]
+        } else {
+            &self.row[..]
+        }
     }
 
     // The row back, as the puts have left it, and how many of its elements are items.

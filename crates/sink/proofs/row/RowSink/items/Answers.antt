@@ -1,0 +1,6 @@
+use Rattle.std.proofs.Common.{rules}
+use Rattle.std.proofs.lemmas.List.{take_all}
+use Rattle.sink.proofs.row.RowSink.items.Goals as goal
+
+pub returns-else-self : goal.returns-else-self
+returns-else-self g c = search (rules, take_all)
