@@ -38,7 +38,19 @@ impl fmt::Display for Line<'_> {
 
     fn fmt<W: fmt::Write>(&self, f: &mut fmt::Formatter<W>) -> fmt::Result {
         match *self {
-            Line::Poll { poll, end, watts } => write!(f, "{poll} {end}{}", Watts(watts)),
+            // The word goes out in one piece with the space before it, so that a writer that fails keeps no space alone.
+            Line::Poll { poll, end, watts } => match end {
+                End::Wait => write!(f, "{poll} wait{}", Watts(watts)),
+                End::Full => write!(f, "{poll} full{}", Watts(watts)),
+                End::Done => write!(f, "{poll} done{}", Watts(watts)),
+                End::Fault(fault) => write!(
+                    f,
+                    "{poll} fault {} {}{}",
+                    fault.number(),
+                    fault.pair(),
+                    Watts(watts)
+                ),
+            },
             Line::Refused(refusal) => write!(
                 f,
                 "refused {} {} {}",

@@ -4,6 +4,8 @@
 #[cfg(test)]
 mod gives;
 #[cfg(test)]
+mod pieces;
+#[cfg(test)]
 mod polls;
 mod recorder;
 #[cfg(test)]
