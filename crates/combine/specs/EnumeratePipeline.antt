@@ -1,8 +1,8 @@
 -- Enumerate as part of a pipeline.
-use Rattle.std.specs.Prelude.{◌≡◌, ℕ, List}
+use Rattle.std.specs.Prelude.{◌≡◌, ℕ, List, refl}
 use Rattle.std.proofs.Common.{ap}
 use Rattle.stream.specs.declared.stream.Stream.{Ghosts as Streams}
-use Rattle.stream.specs.Answers.{Answer}
+use Rattle.stream.specs.Answers.{Answer, Agree}
 use Rattle.stream.specs.Itemwise.Made.{item}
 use Rattle.stream.specs.ItemwisePipelines.{itemwise_pipeline}
 use Rattle.stream.specs.Pipelines.{Pipeline}
@@ -23,3 +23,14 @@ module _ {S A : Type 0} (below : Streams S A) where
   abbrev pub enumerate_pipeline : Pipeline enumerate_answers
   enumerate_pipeline =
       itemwise_pipeline below enumerate_view (λ e. e.stream) (λ e. e.i) below.pipeline.took (λ i x. item (i, x)) (λ i x. next_number i) (λ i j. i ≡ j) (λ i x. item (i, x)) (λ i x. next_number i) (λ i j a c same r. ((same, r), ap next_number same))
+
+  -- An Enumerate is alike to each Enumerate over a stream that its own is alike to, at the same number.
+  abbrev pub enumerate_alike : Enumerate S → List (Answer enumerate_view.Seen) → Type 0
+  enumerate_alike e zs =
+      (ys : List (Answer below.pipeline.view.Seen))
+      × below.pipeline.alike e.stream ys
+      × (zs ≡ enumerated e.i ys)
+
+  -- `agree` of the pipeline, where the second number is named as well.
+  pub enumerate_agree : (e : Enumerate S) (zs : List (Answer enumerate_view.Seen)) → enumerate_alike e zs → Agree enumerate_view.same (enumerate_answers e) zs
+  enumerate_agree e zs w = enumerate_pipeline.agree e zs (w.0, e.i, w.1, refl, w.2)

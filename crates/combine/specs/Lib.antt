@@ -1,4 +1,5 @@
 pub mod EnumerateRule
+pub mod EnumerateAgrees
 pub mod EnumeratePipeline
 pub mod ZipRule
 pub mod ZipAgrees

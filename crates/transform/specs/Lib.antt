@@ -1,4 +1,5 @@
 pub mod MapRule
+pub mod MapAgrees
 pub mod MapPipeline
 pub mod MapWhileRule
 pub mod MapWhilePipeline

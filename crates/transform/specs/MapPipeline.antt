@@ -2,7 +2,8 @@
 use Rattle.std.specs.Prelude.{◌≡◌, ℕ, List}
 use Rattle.stream.specs.declared.stream.Stream.{Ghosts as Streams}
 use Rattle.stream.specs.declared.callback.Callback.{Ghosts as Callbacks}
-use Rattle.stream.specs.Answers.{Answer, waits_in}
+use Rattle.stream.specs.Answers.{Answer, Agree, waits_in}
+use Rattle.stream.specs.Callbacks.{Behaviour, CallbacksAgree, gives, onward}
 use Rattle.stream.specs.Itemwise.{called}
 use Rattle.stream.specs.Itemwise.Made.{item}
 use Rattle.stream.specs.ItemwisePipelines.{callback_pipeline}
@@ -24,11 +25,23 @@ module _ {S F A B : Type 0} (below : Streams S A) (callback : Callbacks F A B) w
   map_itemwise =
       callback_pipeline below callback callback.outputs (λ m. m.stream) (λ m. m.f) below.pipeline.took (λ o a. item o) callback.outputs.same (λ p c. item p) (λ o p a c same r. same)
 
+  -- A Map is alike to each Map over a stream that its own is alike to, by a callback that agrees with its own.
+  abbrev pub map_alike : Map S F → List (Answer callback.outputs.Seen) → Type 0
+  map_alike m zs =
+      (ys : List (Answer below.pipeline.view.Seen))
+      × (h : Behaviour below.pipeline.view.Seen callback.outputs.Seen)
+      × below.pipeline.alike m.stream ys
+      × CallbacksAgree below.pipeline.view.same callback.outputs.same callback.output callback.next gives onward m.f h
+      × (zs ≡ mapped gives onward h ys)
+
+  pub map_agree : (m : Map S F) (zs : List (Answer callback.outputs.Seen)) → map_alike m zs → Agree callback.outputs.same (map_answers m) zs
+  map_agree = map_itemwise.agree
+
   -- What a poll takes says what the callback holds afterwards as well, for the adapters that are built on Map.
   abbrev pub map_pipeline : Pipeline map_answers
   map_pipeline = record {
     view = callback.outputs;
     took = MapTook;
-    alike = map_itemwise.alike;
-    agree = map_itemwise.agree;
+    alike = map_alike;
+    agree = map_agree;
   }
