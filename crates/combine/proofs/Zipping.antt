@@ -1,6 +1,5 @@
 -- One poll of Zip: first an item is kept, and then the second stream is polled.
 use Rattle.std.proofs.Common.{◌≡◌, ℕ, true, false, List, [], ◌∷◌, is_some, Some, None, Option, sym, refl, ap, ◌∙◌, subst, ap₂}
-use Rattle.std.specs.Option.{IsSomeAnd, MatchOption}
 use Rattle.stream.specs.declared.poll.Poll.TheVariants.{Ready, Pending}
 use Rattle.stream.specs.declared.stream.Stream.{Ghosts as Streams}
 use Rattle.stream.specs.Answers.{Answer, NoItem, first, rest, waits_in}
@@ -21,12 +20,6 @@ abbrev pub paired : {A B : Type 0} → A → Answer B → Answer (A × B)
 paired x Pending = Pending
 paired x (Ready None) = Ready None
 paired x (Ready (Some y)) = Ready (Some (x, y))
-
--- it is what `map` makes of r by a closure that pairs x', which is x, with what r holds
-paired_by_map : {A B : Type 0} (P : B → A × B → Type 0) (x x' : A) (o : Option B) (r : Option (A × B)) → x' ≡ x → ((y : B) (q : A × B) → P y q → q ≡ (x', y)) → MatchOption o (r ≡ None) (λ y. IsSomeAnd r (P y)) → paired x (Ready o) ≡ Ready r
-paired_by_map P x x' None r e h m = ap (λ z. Ready z) (sym m)
-paired_by_map P x x' (Some y) None e h m = absurd m
-paired_by_map P x x' (Some y) (Some q) e h m = let k = h y q m in cc
 
 paired_waits : {A B : Type 0} (x : A) (r : Answer B) → waits_in (paired x r) ≡ waits_in r
 paired_waits x Pending = refl
@@ -103,7 +96,8 @@ module _ {S T A B : Type 0} (one : Streams S A) (two : Streams T B) where
         took = p.took (waits_in (paired x r)) r (record { item_slot = o; first = n.first; second = t }) refl q e (paired_waits x r);
       }
 
-  -- where `map` made r of what it answered, by a closure that pairs what was kept with an item
-  pub pair_made : (z n : Zip S T A) (p : Primed z n) (o : Option A) (t : T) (P : B → A × B → Type 0) (x : A) (y : Option B) (r : Option (A × B)) → x ≡ p.item → ((v : B) (q : A × B) → P v q → q ≡ (x, v)) → MatchOption y (r ≡ None) (λ v. IsSomeAnd r (P v)) → o ≡ None → Polled two.answers two.pipeline n.second (Ready y) t → Polled (zip_answers one two) (zip_pipeline one two) z (Ready r) (record { item_slot = o; first = n.first; second = t })
-  pair_made z n p o t P x y r same f m e q =
-      answered_as (Ready r) (paired_by_map P p.item x y r same f m) (second_polled z n p o t (Ready y) e q)
+  -- where it answered a, and r is what a makes with the item that was kept
+  pub pair_made : (z n : Zip S T A) (p : Primed z n) (o : Option A) (t : T) (a : Answer B) (r : Option (A × B)) → (a ≡ Pending → ⊥) → (a ≡ Ready None → r ≡ None) → ((y : B) → a ≡ Ready (Some y) → r ≡ Some (p.item, y)) → o ≡ None → Polled two.answers two.pipeline n.second a t → Polled (zip_answers one two) (zip_pipeline one two) z (Ready r) (record { item_slot = o; first = n.first; second = t })
+  pair_made z n p o t Pending r b f h e q = absurd (b refl)
+  pair_made z n p o t (Ready None) r b f h e q = answered_as (Ready r) (ap (λ v. Ready v) (sym (f refl))) (second_polled z n p o t (Ready None) e q)
+  pair_made z n p o t (Ready (Some y)) r b f h e q = answered_as (Ready r) (ap (λ v. Ready v) (sym (h y refl))) (second_polled z n p o t (Ready (Some y)) e q)

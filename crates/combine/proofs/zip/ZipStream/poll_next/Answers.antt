@@ -1,4 +1,4 @@
-use Rattle.std.proofs.Common.{◌≡◌, None, sym, refl, subst, rules}
+use Rattle.std.proofs.Common.{◌≡◌, None, sym, refl, subst, arith, rules}
 use Rattle.stream.specs.declared.poll.Poll.TheVariants.{Ready, Pending}
 use Rattle.stream.proofs.Cases.{answered_as}
 use Rattle.combine.proofs.Zipping.{Primed, brought, first_polled, kept_already, pair_made, second_polled}
@@ -37,5 +37,5 @@ pub returns-2 : goal.returns-2
 returns-2 g c =
     let h = primed g (goal.at.returns-2 g c).After-poll_next-2 in
     let same : c.unwrap-first.result ≡ h.item = let slot = h.slot in cc in
-    let p = pair_made g.A.Stream g.B.Stream c.args.self.now c.if-is_none.self h c.take.new.self c.poll_next-2.new.self _ c.unwrap-first.result _ c.map.result same (λ y q k. search rules) c.map.ensures.cases c.take.ensures.after (answered_as _ (search rules) c.poll_next-2.ensures.polled) in
+    let p = pair_made g.A.Stream g.B.Stream c.args.self.now c.if-is_none.self h c.take.new.self c.poll_next-2.new.self c.poll_next-2.result _ (λ e. search rules) (λ e. grind arith) (λ v e. grind arith) c.take.ensures.after c.poll_next-2.ensures.polled in
     record { polled = p; parts = p.took }
