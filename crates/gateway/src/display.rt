@@ -38,7 +38,7 @@ impl fmt::Display for Line<'_> {
 
     fn fmt<W: fmt::Write>(&self, f: &mut fmt::Formatter<W>) -> fmt::Result {
         match *self {
-            // The word goes out in one piece with the space before it, so that a writer that fails keeps no space alone.
+            // The word goes out in one piece with the space before it: a writer that has no room for it keeps the number alone.
             Line::Poll { poll, end, watts } => match end {
                 End::Wait => write!(f, "{poll} wait{}", Watts(watts)),
                 End::Full => write!(f, "{poll} full{}", Watts(watts)),
